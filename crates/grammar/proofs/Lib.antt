@@ -1,0 +1,10 @@
+pub mod ClaimComplete
+pub mod ClaimSound
+pub mod ClaimEnds
+pub mod Complete
+pub mod Sound
+pub mod Fault
+pub mod Lexemes
+pub mod Cuts
+pub mod Unique
+pub mod Counts

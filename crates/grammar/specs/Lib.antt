@@ -1,0 +1,15 @@
+pub mod Symbol
+pub mod Tree
+pub mod Claims
+pub mod Patterns
+pub mod Viable
+pub mod Spelling
+pub mod Marks
+pub mod Cutting
+pub mod Limits
+pub mod Numbers
+pub mod Reading
+pub mod Views
+pub mod ClaimMachine
+pub mod Machine
+pub mod Theorems

@@ -1,0 +1,10 @@
+pub mod Summaries
+pub mod Order
+pub mod Trees
+pub mod Built
+pub mod Scanning
+pub mod Tagging
+pub mod Spots
+pub mod Stored
+pub mod Readers
+pub mod Held

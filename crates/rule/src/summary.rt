@@ -1,0 +1,76 @@
+// What matching asks of a pattern at each row, worked out once.
+ghost use mathlib.Core.Path.{_≡_};
+ghost use Rattle.rule.specs.Summaries.{of-empty, of-claim, of-alternative, of-sequence, of-star, after};
+
+// `nullable`: it fits no rows. `claims`: how many claims it has. `last`: its claims that can take the last of the rows it fits,
+// bit k for the claim k, counted from 0 from left to right.
+#[derive(Clone, Copy)]
+pub struct Summary {
+    pub nullable: bool,
+    pub claims: u8,
+    pub last: u64,
+}
+
+// A set of claims that are counted after n others.
+fn moved(last: u64, n: u8) -> u64
+    ensures { λ r. ⌜ r ≡ after n last ⌝ }
+{
+    if n < 64 { last << n } else { 0 }
+}
+
+impl Summary {
+    pub fn of_empty() -> Summary
+        ensures { λ r. ⌜ r ≡ of-empty ⌝ }
+    {
+        Summary {
+            nullable: true,
+            claims: 0,
+            last: 0,
+        }
+    }
+
+    pub fn of_claim() -> Summary
+        ensures { λ r. ⌜ r ≡ of-claim ⌝ }
+    {
+        Summary {
+            nullable: false,
+            claims: 1,
+            last: 1,
+        }
+    }
+
+    pub fn alternative(self, other: Summary) -> Summary
+        ensures { λ r. ⌜ r ≡ of-alternative self other ⌝ }
+    {
+        Summary {
+            nullable: self.nullable || other.nullable,
+            claims: self.claims.saturating_add(other.claims),
+            last: self.last | moved(other.last, self.claims),
+        }
+    }
+
+    pub fn sequence(self, other: Summary) -> Summary
+        ensures { λ r. ⌜ r ≡ of-sequence self other ⌝ }
+    {
+        let last = moved(other.last, self.claims);
+        Summary {
+            nullable: self.nullable && other.nullable,
+            claims: self.claims.saturating_add(other.claims),
+            last: if other.nullable {
+                self.last | last
+            } else {
+                last
+            },
+        }
+    }
+
+    pub fn star(self) -> Summary
+        ensures { λ r. ⌜ r ≡ of-star self ⌝ }
+    {
+        Summary {
+            nullable: true,
+            claims: self.claims,
+            last: self.last,
+        }
+    }
+}
