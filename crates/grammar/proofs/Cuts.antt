@@ -18,7 +18,7 @@ use Rattle.grammar.specs.Cutting.{Longest, Placed, placed, Cut, cut-end, cut-s
 use Rattle.grammar.proofs.Lexemes.{true-T, lexeme-begins, lexeme-some}
 
 -- every symbol but the numbers, with its bytes
-abbrev spellings : List (List ℕ × Symbol)
+abbrev pub spellings : List (List ℕ × Symbol)
 spellings =
     (codes "[", LeftSquare) ∷ (codes "]", RightSquare) ∷ (codes "(", LeftRound) ∷ (codes ")", RightRound)
     ∷ (codes "|", Bar) ∷ (codes ".", Dot) ∷ (codes "*", Star) ∷ (codes "_", Underscore) ∷ (codes "'", Quote) ∷ (codes "=>", Arrow)
@@ -36,12 +36,12 @@ same [] (b ∷ v) = false
 same (a ∷ w) [] = false
 same (a ∷ w) (b ∷ v) = eqb a b && same w v
 
-abbrev looked-up : List (List ℕ × Symbol) → List ℕ → Option Symbol
+abbrev pub looked-up : List (List ℕ × Symbol) → List ℕ → Option Symbol
 looked-up [] w = None
 looked-up (e ∷ es) w = cond (same (e .0) w) (Some (e .1)) (looked-up es w)
 
 -- which symbol bytes spell, as a function: so they spell one only
-abbrev spelled : List ℕ → Option Symbol
+abbrev pub spelled : List ℕ → Option Symbol
 spelled [] = None
 spelled (b ∷ bs) = cond (asciiDigit b) (Some (Number (valued 0 (b ∷ bs)))) (looked-up spellings (b ∷ bs))
 
@@ -49,7 +49,7 @@ number-spelled : (w : List ℕ) → Digits w → spelled w ≡ Some (Number (val
 number-spelled [] d = absurd d
 number-spelled (b ∷ bs) d = cond-true (asciiDigit b) _ _ (true-T (asciiDigit b) (d .0))
 
-spells-spelled : (s : Symbol) (w : List ℕ) → Spells s w → spelled w ≡ Some s
+pub spells-spelled : (s : Symbol) (w : List ℕ) → Spells s w → spelled w ≡ Some s
 spells-spelled LeftSquare w e = ap spelled e
 spells-spelled RightSquare w e = ap spelled e
 spells-spelled LeftRound w e = ap spelled e

@@ -13,7 +13,7 @@ use grammar::Tag;
 
 // Kinds of bytes that stand in runs.
 #[derive(Clone, Copy)]
-pub enum Class {
+pub(crate) enum Class {
     Space,
     Digit,
     Wordly,
@@ -21,7 +21,7 @@ pub enum Class {
 
 // A token as a part of the text.
 #[derive(Clone, Copy)]
-pub enum Token<'a> {
+pub(crate) enum Token<'a> {
     Word(&'a [u8]),
     Number(&'a [u8]),
     Mark(Tag),
@@ -29,7 +29,7 @@ pub enum Token<'a> {
 
 // A text, and how much of it is cut.
 #[derive(Drop)]
-pub struct Cutter<'a> {
+pub(crate) struct Cutter<'a> {
     text: &'a [u8],
     at: usize,
 }
@@ -45,7 +45,7 @@ fn belongs(class: Class, b: u8) -> bool
 }
 
 // Where the run of a class that begins at `from` ends.
-pub fn run_end(text: &[u8], from: usize, class: Class) -> usize
+pub(crate) fn run_end(text: &[u8], from: usize, class: Class) -> usize
     requires { ⌜ from ≤ length (now text) ⌝ }
     ensures run { λ r. ⌜ r ≡ from + leading (member class) (drop from (now (text .entry))) ⌝ }
     ensures within { λ r. ⌜ r ≤ length (now (text .entry)) ⌝ }
@@ -114,7 +114,7 @@ fn byte_or_zero(text: &[u8], i: usize) -> u8
 }
 
 impl<'a> Cutter<'a> {
-    pub fn new(text: &'a [u8]) -> Cutter<'a>
+    pub(crate) fn new(text: &'a [u8]) -> Cutter<'a>
         ensures text { λ r. ⌜ now (r .text) ≡ now (text .entry) ⌝ }
         ensures at { λ r. ⌜ r .at ≡ 0 ⌝ }
     {
@@ -122,7 +122,7 @@ impl<'a> Cutter<'a> {
     }
 
     // The next token and its place; none at the end.
-    pub fn next(&mut self) -> Result<Option<(Token<'a>, usize)>, Refusal>
+    pub(crate) fn next(&mut self) -> Result<Option<(Token<'a>, usize)>, Refusal>
         requires { ⌜ now self .at ≤ length (now (now self .text)) ⌝ }
         ensures value { λ r. ⌜ told r (now (self .exit) .at) ≡ scanned (now (now (self .entry) .text)) (now (self .entry) .at) ⌝ }
         ensures same { λ r. ⌜ now (now (self .exit) .text) ≡ now (now (self .entry) .text) ⌝ }

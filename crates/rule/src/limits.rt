@@ -42,7 +42,7 @@ fn claims(found: Tag) -> u8
 }
 
 // The 501st token is too many.
-pub fn few(tokens: &Tokens) -> Result<(), Refusal>
+pub(crate) fn few(tokens: &Tokens) -> Result<(), Refusal>
     ensures { λ r. ⌜ Cases r (λ _. length (symbols-of (now (tokens .entry))) ≤ token-limit) (λ e. (e ≡ TooManyTokens (place-in (now (tokens .entry)) token-limit)) × (token-limit < length (symbols-of (now (tokens .entry))))) ⌝ }
 {
     if tokens.len() > 500 {
@@ -52,7 +52,7 @@ pub fn few(tokens: &Tokens) -> Result<(), Refusal>
 }
 
 // A `(` is too deep with which `(` less `)` so far exceeds 16.
-pub fn shallow(tokens: &Tokens) -> Result<(), Refusal>
+pub(crate) fn shallow(tokens: &Tokens) -> Result<(), Refusal>
     ensures { λ r. ⌜ Cases r (λ _. Shallow (symbols-of (now (tokens .entry)))) (λ e. Caused TooDeep (now (tokens .entry)) (FirstDeep (symbols-of (now (tokens .entry)))) e) ⌝ }
 {
     let mut opened: usize = 0;
@@ -69,7 +69,7 @@ pub fn shallow(tokens: &Tokens) -> Result<(), Refusal>
 }
 
 // How many claims there are; the 61st `[` is too many.
-pub fn uncrowded(tokens: &Tokens) -> Result<u8, Refusal>
+pub(crate) fn uncrowded(tokens: &Tokens) -> Result<u8, Refusal>
     ensures { λ r. ⌜ Cases r (λ n. (n ≡ count claiming (symbols-of (now (tokens .entry)))) × (n ≤ claim-limit)) (λ e. Caused TooManyClaims (now (tokens .entry)) (Crowding (symbols-of (now (tokens .entry)))) e) ⌝ }
 {
     let mut found: u8 = 0;

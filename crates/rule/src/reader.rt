@@ -12,7 +12,7 @@ use grammar::Term;
 
 // A thing that was read: its node, and the index of the token after it.
 #[derive(Clone, Copy)]
-pub struct Found {
+pub(crate) struct Found {
     pub node: u16,
     pub next: usize,
 }
@@ -277,7 +277,7 @@ fn rule(tree: &mut Tree, tokens: &Tokens, at: usize) -> Result<Found, Refusal>
 }
 
 // All tokens as one rule; its root.
-pub fn whole(tree: &mut Tree, tokens: &Tokens) -> Result<u16, Refusal>
+pub(crate) fn whole(tree: &mut Tree, tokens: &Tokens) -> Result<u16, Refusal>
     requires { ⌜ Ready (now tree) (symbols-of (now tokens)) 0 ⌝ }
     ensures { λ r. ⌜ WholeRead (now (tokens .entry)) (now (tree .exit)) r ⌝ }
 {

@@ -86,7 +86,7 @@ fn value(digits: &[u8]) -> Option<u32>
 }
 
 // The number whose digits stand at a place; 0 if it is over 1,000,000,000.
-pub fn number_at(text: &[u8], place: usize) -> u32
+pub(crate) fn number_at(text: &[u8], place: usize) -> u32
     ensures { λ r. ⌜ r ≡ number-at (now (text .entry)) place ⌝ }
 {
     if place > text.len() {
@@ -100,7 +100,7 @@ pub fn number_at(text: &[u8], place: usize) -> u32
 }
 
 // The tag of a token that stands at a place, unless it is a word that no token is, or a number over 1,000,000,000.
-pub fn tag_of(token: Token, place: usize) -> Result<Tag, Refusal>
+pub(crate) fn tag_of(token: Token, place: usize) -> Result<Tag, Refusal>
     ensures { λ r. ⌜ Tagged (piece (token .entry)) place r ⌝ }
 {
     match token {

@@ -3,7 +3,7 @@ use grammar::Tag;
 
 // Which token it is, and how many bytes stand before it. A number's value is read from the text at its place.
 #[derive(Clone, Copy)]
-pub struct Spot {
+pub(crate) struct Spot {
     pub tag: Tag,
     pub place: usize,
 }

@@ -19,7 +19,7 @@ fn moved(last: u64, n: u8) -> u64
 }
 
 impl Summary {
-    pub fn of_empty() -> Summary
+    pub(crate) fn of_empty() -> Summary
         ensures { λ r. ⌜ r ≡ of-empty ⌝ }
     {
         Summary {
@@ -29,7 +29,7 @@ impl Summary {
         }
     }
 
-    pub fn of_claim() -> Summary
+    pub(crate) fn of_claim() -> Summary
         ensures { λ r. ⌜ r ≡ of-claim ⌝ }
     {
         Summary {
@@ -39,7 +39,7 @@ impl Summary {
         }
     }
 
-    pub fn alternative(self, other: Summary) -> Summary
+    pub(crate) fn alternative(self, other: Summary) -> Summary
         ensures { λ r. ⌜ r ≡ of-alternative self other ⌝ }
     {
         Summary {
@@ -49,7 +49,7 @@ impl Summary {
         }
     }
 
-    pub fn sequence(self, other: Summary) -> Summary
+    pub(crate) fn sequence(self, other: Summary) -> Summary
         ensures { λ r. ⌜ r ≡ of-sequence self other ⌝ }
     {
         let last = moved(other.last, self.claims);
@@ -64,7 +64,7 @@ impl Summary {
         }
     }
 
-    pub fn star(self) -> Summary
+    pub(crate) fn star(self) -> Summary
         ensures { λ r. ⌜ r ≡ of-star self ⌝ }
     {
         Summary {

@@ -11,7 +11,7 @@ mod cutting;
 mod stored;
 
 #[derive(Drop)]
-pub struct Tokens<'a> {
+pub(crate) struct Tokens<'a> {
     text: &'a [u8],
     spots: [Spot; 501],
     len: usize,

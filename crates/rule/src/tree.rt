@@ -10,7 +10,7 @@ use crate::node::Node;
 use crate::summary::Summary;
 
 #[derive(Drop)]
-pub struct Tree {
+pub(crate) struct Tree {
     nodes: [Node; 500],
     summaries: [Summary; 500],
     len: usize,
@@ -23,7 +23,7 @@ pub struct Tree {
 
 impl Tree {
     // A tree with no nodes.
-    pub fn new() -> Tree
+    pub(crate) fn new() -> Tree
         ensures { λ t. ⌜ t .len ≡ 0 ⌝ }
     {
         Tree {
@@ -54,7 +54,7 @@ impl Tree {
     }
 
     // One node more, whose parts are there.
-    pub fn add(&mut self, node: Node) -> u16
+    pub(crate) fn add(&mut self, node: Node) -> u16
         requires room { ⌜ length (take (now self .len) (now self .nodes)) < 500 ⌝ }
         requires parts { ⌜ PartsBelow (length (take (now self .len) (now self .nodes))) node ⌝ }
         ensures place { λ n. ⌜ n ≡ length (take (now (self .entry) .len) (now (self .entry) .nodes)) ⌝ }
@@ -69,7 +69,7 @@ impl Tree {
     }
 
     // The node n, or an empty pattern where there is none.
-    pub fn node(&self, n: u16) -> Node
+    pub(crate) fn node(&self, n: u16) -> Node
         ensures value { λ r. ⌜ r ≡ node-at (take (now (self .entry) .len) (now (self .entry) .nodes)) n ⌝ }
         ensures meaning { λ r. ⌜ thing (take (now (self .entry) .len) (now (self .entry) .nodes)) n ≡ made (things [] (take (now (self .entry) .len) (now (self .entry) .nodes))) r ⌝ }
         ensures below { λ r. ⌜ PartsBelow n r ⌝ }
@@ -82,7 +82,7 @@ impl Tree {
     }
 
     // The summary of the pattern at the node n.
-    pub fn summary(&self, n: u16) -> Summary
+    pub(crate) fn summary(&self, n: u16) -> Summary
         ensures { λ r. ⌜ r ≡ summary-at (take (now (self .entry) .len) (now (self .entry) .nodes)) n ⌝ }
     {
         if (n as usize) < self.len {

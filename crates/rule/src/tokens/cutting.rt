@@ -10,7 +10,7 @@ use grammar::Refusal;
 
 impl<'a> Tokens<'a> {
     // Puts all tokens of the text into this empty table, as far as there is room; or finds the first bytes that are none.
-    pub fn cut(&mut self) -> Result<(), Refusal>
+    pub(crate) fn cut(&mut self) -> Result<(), Refusal>
         requires { ⌜ spots-of (now self) ≡ [] ⌝ }
         ensures { λ r. ⌜ Cases r (λ _. Stores (now (now (self .entry) .text)) (now (self .exit))) (λ e. Stops (now (now (self .entry) .text)) e) ⌝ }
     {

@@ -14,7 +14,7 @@ use grammar::Tag;
 
 impl<'a> Tokens<'a> {
     // No tokens yet.
-    pub fn new(text: &'a [u8]) -> Tokens<'a>
+    pub(crate) fn new(text: &'a [u8]) -> Tokens<'a>
         ensures text { λ r. ⌜ now (r .text) ≡ now (text .entry) ⌝ }
         ensures none { λ r. ⌜ spots-of r ≡ [] ⌝ }
     {
@@ -29,7 +29,7 @@ impl<'a> Tokens<'a> {
     }
 
     // One token more, while there is room.
-    pub fn push(&mut self, tag: Tag, place: usize)
+    pub(crate) fn push(&mut self, tag: Tag, place: usize)
         requires { ⌜ real tag ≡ true ⌝ }
         ensures text { λ _. ⌜ now (now (self .exit) .text) ≡ now (now (self .entry) .text) ⌝ }
         ensures more { λ _. ⌜ spots-of (now (self .exit)) ≡ take 501 (spots-of (now (self .entry)) ++ spot tag place ∷ []) ⌝ }
@@ -40,14 +40,14 @@ impl<'a> Tokens<'a> {
         }
     }
 
-    pub fn len(&self) -> usize
+    pub(crate) fn len(&self) -> usize
         ensures { λ r. ⌜ r ≡ length (spots-of (now (self .entry))) ⌝ }
     {
         self.len
     }
 
     // The tag of the token k, or the end's.
-    pub fn tag(&self, k: usize) -> Tag
+    pub(crate) fn tag(&self, k: usize) -> Tag
         ensures { λ r. ⌜ r ≡ next-tag (drop k (symbols-of (now (self .entry)))) ⌝ }
     {
         if k < self.len {
@@ -58,7 +58,7 @@ impl<'a> Tokens<'a> {
     }
 
     // The place of the token k, or the text's length.
-    pub fn place(&self, k: usize) -> usize
+    pub(crate) fn place(&self, k: usize) -> usize
         ensures { λ r. ⌜ r ≡ place-in (now (self .entry)) k ⌝ }
     {
         if k < self.len {
@@ -69,14 +69,14 @@ impl<'a> Tokens<'a> {
     }
 
     // The number that stands where the token k does.
-    pub fn number(&self, k: usize) -> u32
+    pub(crate) fn number(&self, k: usize) -> u32
         ensures { λ r. ⌜ r ≡ number-in (now (self .entry)) k ⌝ }
     {
         number_at(self.text, self.place(k))
     }
 
     // The token k is one with which no rule can go on.
-    pub fn unexpected(&self, k: usize) -> Refusal
+    pub(crate) fn unexpected(&self, k: usize) -> Refusal
         ensures { λ r. ⌜ r ≡ Unexpected (place-in (now (self .entry)) k) ⌝ }
     {
         Refusal::Unexpected(self.place(k))

@@ -1,0 +1,18 @@
+-- The worked examples, in one statement. It grows with the layers above the reading of rule texts.
+use mathlib.Core.Path.{_≡_}
+use mathlib.Core.List.{List}
+use Prim.Native.Nat.{ℕ}
+use lib.Chars.{codes}
+use lib.IntN.{ℤ}
+use Rattle.grammar.specs.declared.Refusal.{Refusal}
+use Rattle.grammar.specs.Numbers.{number-of, place-of}
+use Rattle.grammar.specs.Reading.{Numbered, Refused}
+
+-- under each watch number, the text is refused by this number at this place
+abbrev pub RefusedBy : ℕ → ℕ → List ℕ → Type 0
+RefusedBy number place text = (n : ℤ) → Numbered n → (e : Refusal) × Refused n text e × (number-of e ≡ number) × (place-of e ≡ place)
+
+pub record Examples : Type 0 where
+  pub empty-text : RefusedBy 7 0 (codes "")
+  pub no-comparison : RefusedBy 7 3 (codes "[c1]")
+  pub unknown-word : RefusedBy 3 1 (codes "[c7 = 1]")
