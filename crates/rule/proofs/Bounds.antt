@@ -1,9 +1,11 @@
 -- Counting brackets among the tokens.
+use mathlib.Core.Bool.{true, false}
 use mathlib.Core.List.{List, [], _∷_}
 use mathlib.Core.Path.{_≡_, refl, sym, _∙_, ap}
 use Prim.Native.Nat.{ℕ, zero, suc, _+_, _<_, _≤_}
 use native.Mathlib.Omega.{arith}
 use native.Mathlib.Numerals.{add-one}
+use lib.Dec.{ltb}
 use lib.ListN.{length, take, drop, getD, length-take}
 use lib.Seq.{drop-cons}
 use Rattle.grammar.specs.declared.Tag.{Tag}
@@ -11,6 +13,7 @@ use Rattle.grammar.specs.Symbol.{Symbol, Underscore, LeftRound, RightRound, Lef
 use Rattle.grammar.specs.Views.{AtBase, base-Underscore, base-LeftRound, base-LeftSquare, base-other, at-base, AfterPiece, piece-Star, piece-Dot, piece-Bar, piece-RightRound, piece-other, after-piece}
 use Rattle.grammar.specs.Limits.{opening-at, claiming-at, closing-at, opening, claiming, closing, count, Stands}
 use Rattle.std.proofs.shelf.Lists.{length-map}
+use Rattle.std.proofs.shelf.Ways.{tells}
 use Rattle.rule.specs.declared.tokens.Tokens.{Tokens}
 use Rattle.rule.specs.Spots.{symbol-at, next-tag}
 use Rattle.rule.specs.Stored.{spots-of, symbols-of}
@@ -100,6 +103,13 @@ opened-at ts i h o = stands-as ts i h LeftRound (open-is (symbol-of ts i) (at-ba
 
 pub claimed-at : (ts : List Symbol) (i : ℕ) → i < length ts → 0 < claiming (symbol-of ts i) → Stands ts i LeftSquare
 claimed-at ts i h o = stands-as ts i h LeftSquare (claim-is (symbol-of ts i) (at-base (symbol-of ts i)) o)
+
+-- what a test says
+pub is-over : (a b : ℕ) → true ≡ ltb a b → a < b
+is-over a b e = grind (arith, tells)
+
+pub is-under : (a b : ℕ) → false ≡ ltb a b → b ≤ a
+is-under a b e = grind (arith, tells)
 
 -- a loop over the tokens, at the index i below their number n
 module _ (t : Tokens) (i n : ℕ) (e : n ≡ length (spots-of t)) (h : i < n) where

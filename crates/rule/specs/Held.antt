@@ -58,3 +58,8 @@ ReadWhenAllowed n text new r = (ts : List Placed) (x : Pattern) → Allowed n te
 -- a text that is to be refused is refused, by whatever refusal it is to have
 abbrev pub RefusedWhenNot : ℤ → List ℕ → Result (Unit {0}) Refusal → Type 0
 RefusedWhenNot n text r = (e : Refusal) → Refused n text e → r ≡ Err e
+
+-- what parsing makes of a text: the rule that it holds and no other, or its refusal and no other
+abbrev pub Parsed : ℤ → List ℕ → Result Rule Refusal → Type 0
+Parsed n text (Ok u) = Holds n text u × ReadWhenAllowed n text u (Ok tt) × RefusedWhenNot n text (Ok tt)
+Parsed n text (Err e) = Refused n text e × ((u : Rule) → ReadWhenAllowed n text u (Err e)) × RefusedWhenNot n text (Err e)

@@ -1,11 +1,12 @@
 // The limits on the tokens of a rule.
 ghost use mathlib.Core.Path.{_≡_};
-ghost use Prim.Native.Nat.{ℕ, _≤_, _<_};
+ghost use Prim.Native.Nat.{_-_, _≤_, _<_};
+ghost use lib.Dec.{ltb};
 ghost use lib.ListN.{length};
 ghost use Rattle.std.specs.Results.{Cases};
 ghost use Rattle.grammar.specs.Symbol.{Symbol, tag};
 ghost use Rattle.grammar.specs.declared.Refusal.the-variants.{TooManyTokens, TooDeep, TooManyClaims};
-ghost use Rattle.grammar.specs.Limits.{token-limit, claim-limit, opening, closing, claiming, count, FirstDeep, Shallow, Crowding};
+ghost use Rattle.grammar.specs.Limits.{token-limit, depth-limit, claim-limit, opening, closing, claiming, count, FirstDeep, Shallow, Crowding};
 ghost use Rattle.rule.specs.Stored.{symbols-of, place-in, Caused};
 use crate::tokens::Tokens;
 use grammar::Refusal;
@@ -41,11 +42,29 @@ fn claims(found: Tag) -> u8
     }
 }
 
+fn too_many(tokens: usize) -> bool
+    ensures { λ r. ⌜ r ≡ ltb token-limit tokens ⌝ }
+{
+    tokens > 500
+}
+
+fn too_deep(opened: usize, closed: usize) -> bool
+    ensures { λ r. ⌜ r ≡ ltb depth-limit (opened - closed) ⌝ }
+{
+    opened.saturating_sub(closed) > 16
+}
+
+fn too_crowded(claims: u8) -> bool
+    ensures { λ r. ⌜ r ≡ ltb claim-limit claims ⌝ }
+{
+    claims > 60
+}
+
 // The 501st token is too many.
 pub(crate) fn few(tokens: &Tokens) -> Result<(), Refusal>
     ensures { λ r. ⌜ Cases r (λ _. length (symbols-of (now (tokens .entry))) ≤ token-limit) (λ e. (e ≡ TooManyTokens (place-in (now (tokens .entry)) token-limit)) × (token-limit < length (symbols-of (now (tokens .entry))))) ⌝ }
 {
-    if tokens.len() > 500 {
+    if too_many(tokens.len()) {
         return Err(Refusal::TooManyTokens(tokens.place(500)));
     }
     Ok(())
@@ -61,7 +80,7 @@ pub(crate) fn shallow(tokens: &Tokens) -> Result<(), Refusal>
         let tag = tokens.tag(i);
         opened += opens(tag);
         closed += closes(tag);
-        if opened > closed + 16 {
+        if too_deep(opened, closed) {
             return Err(Refusal::TooDeep(tokens.place(i)));
         }
     }
@@ -75,7 +94,7 @@ pub(crate) fn uncrowded(tokens: &Tokens) -> Result<u8, Refusal>
     let mut found: u8 = 0;
     for i in 0..tokens.len() {
         found += claims(tokens.tag(i));
-        if found > 60 {
+        if too_crowded(found) {
             return Err(Refusal::TooManyClaims(tokens.place(i)));
         }
     }

@@ -1,4 +1,6 @@
 // Readers of a rule and its parts, by recursive descent over stored tokens: each puts its tree after the nodes that are there.
+ghost use mathlib.Core.Path.{_≡_};
+ghost use lib.Dec.{ltb};
 ghost use Rattle.rule.specs.Stored.{symbols-of};
 ghost use Rattle.rule.specs.Readers.{Inside, Ready, NameRead, TermRead, Leads, FirstRead, SumRead, ComparisonRead, SingleRead, BothRead, EitherRead, ClaimRead, BaseRead, PieceRead, ChainRead, RuleRead, WholeRead};
 use crate::node::Node;
@@ -67,6 +69,13 @@ fn first(tree: &mut Tree, tokens: &Tokens, at: usize) -> Result<Found, Refusal>
     Ok(Found { node, next: after })
 }
 
+// A sum with so many terms may have one more.
+fn may_grow(terms: u8) -> bool
+    ensures { λ r. ⌜ r ≡ ltb terms 8 ⌝ }
+{
+    terms < 8
+}
+
 // 1 to 8 terms.
 fn sum(tree: &mut Tree, tokens: &Tokens, at: usize) -> Result<Found, Refusal>
     requires { ⌜ Ready (now tree) (symbols-of (now tokens)) at ⌝ }
@@ -74,7 +83,7 @@ fn sum(tree: &mut Tree, tokens: &Tokens, at: usize) -> Result<Found, Refusal>
 {
     let mut left = first(tree, tokens, at)?;
     let mut count: u8 = 1;
-    while count < 8 {
+    while may_grow(count) {
         match tokens.tag(left.next) {
             Tag::Additive(sign) => {
                 let (term, after) = term(tokens, left.next + 1)?;
@@ -244,13 +253,21 @@ fn piece(tree: &mut Tree, tokens: &Tokens, at: usize) -> Result<Found, Refusal>
     Ok(inner)
 }
 
+// The piece after a `.`: pieces are joined one by one, so that a chain groups from the left.
+fn next_piece(tree: &mut Tree, tokens: &Tokens, at: usize) -> Result<Found, Refusal>
+    requires { ⌜ Ready (now tree) (symbols-of (now tokens)) at ⌝ }
+    ensures { λ r. ⌜ PieceRead (now (tokens .entry)) at (now (tree .entry)) (now (tree .exit)) r ⌝ }
+{
+    piece(tree, tokens, at)
+}
+
 fn chain(tree: &mut Tree, tokens: &Tokens, at: usize) -> Result<Found, Refusal>
     requires { ⌜ Ready (now tree) (symbols-of (now tokens)) at ⌝ }
     ensures { λ r. ⌜ ChainRead (now (tokens .entry)) at (now (tree .entry)) (now (tree .exit)) r ⌝ }
 {
     let mut left = piece(tree, tokens, at)?;
     while let Tag::Dot = tokens.tag(left.next) {
-        let right = piece(tree, tokens, left.next + 1)?;
+        let right = next_piece(tree, tokens, left.next + 1)?;
         let node = tree.add(Node::Sequence(left.node, right.node));
         left = Found {
             node,

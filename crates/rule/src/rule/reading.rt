@@ -8,7 +8,7 @@ ghost use Rattle.grammar.specs.declared.Refusal.the-variants.{WatchNumber, Text
 ghost use Rattle.grammar.specs.Tree.{claim, truth};
 ghost use Rattle.grammar.specs.Limits.{text-limit};
 ghost use Rattle.grammar.specs.Reading.{Numbered};
-ghost use Rattle.rule.specs.Held.{watch-of, tokens-of, rule-tree, Outcome, ReadWhenAllowed, RefusedWhenNot};
+ghost use Rattle.rule.specs.Held.{watch-of, tokens-of, rule-tree, Parsed, Outcome, ReadWhenAllowed, RefusedWhenNot};
 use crate::limits::few;
 use crate::limits::shallow;
 use crate::limits::uncrowded;
@@ -57,11 +57,9 @@ impl Rule {
         }
     }
 
-    // Reads a text into this place under a watch number, or refuses it and leaves the place as it is.
-    pub fn read(&mut self, watch: i32, text: &[u8]) -> Result<(), Refusal>
-        ensures outcome { λ r. ⌜ Outcome watch (now (text .entry)) (now (self .entry)) (now (self .exit)) r ⌝ }
-        ensures allowed { λ r. ⌜ ReadWhenAllowed watch (now (text .entry)) (now (self .exit)) r ⌝ }
-        ensures refused { λ r. ⌜ RefusedWhenNot watch (now (text .entry)) r ⌝ }
+    // The rule that a text is, under a watch number.
+    fn parsed(watch: i32, text: &[u8]) -> Result<Rule, Refusal>
+        ensures { λ r. ⌜ Parsed watch (now (text .entry)) r ⌝ }
     {
         let watch = watch_number(watch)?;
         short(text)?;
@@ -72,13 +70,27 @@ impl Rule {
         let claims = uncrowded(&tokens)?;
         let mut tree = Tree::new();
         let root = whole(&mut tree, &tokens)?;
-        *self = Rule {
+        Ok(Rule {
             watch,
             tree,
             root,
             tokens: tokens.len() as u16,
             claims,
-        };
-        Ok(())
+        })
+    }
+
+    // Reads a text into this place under a watch number, or refuses it and leaves the place as it is.
+    pub fn read(&mut self, watch: i32, text: &[u8]) -> Result<(), Refusal>
+        ensures outcome { λ r. ⌜ Outcome watch (now (text .entry)) (now (self .entry)) (now (self .exit)) r ⌝ }
+        ensures allowed { λ r. ⌜ ReadWhenAllowed watch (now (text .entry)) (now (self .exit)) r ⌝ }
+        ensures refused { λ r. ⌜ RefusedWhenNot watch (now (text .entry)) r ⌝ }
+    {
+        match Rule::parsed(watch, text) {
+            Ok(rule) => {
+                *self = rule;
+                Ok(())
+            }
+            Err(refusal) => Err(refusal),
+        }
     }
 }

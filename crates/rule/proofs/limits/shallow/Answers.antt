@@ -11,7 +11,7 @@ use Rattle.rule.specs.Spots.{symbol-at}
 use Rattle.rule.specs.Stored.{spots-of, symbols-of}
 use Rattle.rule.proofs.Faults.{faulted-at}
 use Rattle.rule.proofs.Peeks.{stands}
-use Rattle.rule.proofs.Bounds.{symbol-of, opening-one, closing-one, count-more, tag-at, opened-at, inside, stored}
+use Rattle.rule.proofs.Bounds.{symbol-of, opening-one, closing-one, count-more, tag-at, opened-at, is-over, is-under, inside, stored}
 use Rattle.rule.proofs.limits.shallow.Needs as need
 
 pub loop-i-holds : need.loop-i-holds
@@ -39,19 +39,8 @@ add-closed c =
     omega (arith, c .loop-i .inv .3, stored t i _ (c .len-i-end .ensures) (c .loop-i-test .taken), o, closing-one (symbol-of ts i)) in
     search (needs, z)
 
-pub add-closed-in-loop-i : need.add-closed-in-loop-i
-add-closed-in-loop-i c =
-    let t = c .args .tokens .now in
-    let ts = symbols-of t in
-    let i = c .loop-i .i in
-    let h = inside t i _ (c .len-i-end .ensures) (c .loop-i-test .taken) in
-    let o = c .closes-closed .ensures _ (tag-at ts i h (c .tag-tag .ensures)) in
-    let z : c .loop-i .closed + c .closes-closed .result + 16 < 2 ^ 64 =
-    omega (arith, c .loop-i .inv .3, stored t i _ (c .len-i-end .ensures) (c .loop-i-test .taken), o, closing-one (symbol-of ts i)) in
-    search (needs, z)
-
-pub returns-then-opened-closed : need.returns-then-opened-closed
-returns-then-opened-closed c =
+pub returns-then-too-deep : need.returns-then-too-deep
+returns-then-too-deep c =
     let t = c .args .tokens .now in
     let ts = symbols-of t in
     let i = c .loop-i .i in
@@ -61,8 +50,8 @@ returns-then-opened-closed c =
     let l = c .closes-closed .ensures _ k in
     faulted-at _ (ap TooDeep (c .place .ensures)) (record {
       deep = record {
-        stands = opened-at ts i h (omega (arith, c .loop-i .inv .2, c .if-opened-closed .taken, o));
-        over = omega (arith, count-more opening ts i h, count-more closing ts i h, o, l, c .loop-i .inv .0, c .loop-i .inv .1, c .if-opened-closed .taken);
+        stands = opened-at ts i h (omega (arith, c .loop-i .inv .2, is-over _ _ (c .if-too-deep .ensures tt), o));
+        over = omega (arith, count-more opening ts i h, count-more closing ts i h, o, l, c .loop-i .inv .0, c .loop-i .inv .1, is-over _ _ (c .if-too-deep .ensures tt));
       };
       first = c .loop-i .inv .4;
     })
@@ -80,9 +69,9 @@ loop-i-again c =
     let b = count-more closing ts i h in (
       omega (arith, a, o, c .loop-i .inv .0),
       omega (arith, b, l, c .loop-i .inv .1),
-      c .if-opened-closed .left,
+      omega (arith, is-under _ _ (c .if-too-deep .ensures tt)),
       omega (arith, c .loop-i .inv .3, l, closing-one (symbol-of ts i)),
-      below-more (λ (j : ℕ). Deep ts j → ⊥) i (c .loop-i .inv .4) (λ d. omega (arith, d .over, a, b, o, l, c .loop-i .inv .0, c .loop-i .inv .1, c .if-opened-closed .left)),
+      below-more (λ (j : ℕ). Deep ts j → ⊥) i (c .loop-i .inv .4) (λ d. omega (arith, d .over, a, b, o, l, c .loop-i .inv .0, c .loop-i .inv .1, is-under _ _ (c .if-too-deep .ensures tt))),
     )
 
 pub returns : need.returns

@@ -9,7 +9,7 @@ use Rattle.grammar.specs.Limits.{claiming, count}
 use Rattle.rule.specs.Spots.{symbol-at}
 use Rattle.rule.specs.Stored.{spots-of, symbols-of}
 use Rattle.rule.proofs.Faults.{faulted-at}
-use Rattle.rule.proofs.Bounds.{symbol-of, claiming-one, count-more, tag-at, claimed-at, inside}
+use Rattle.rule.proofs.Bounds.{symbol-of, claiming-one, count-more, tag-at, claimed-at, is-over, is-under, inside}
 use Rattle.rule.proofs.limits.uncrowded.Needs as need
 
 pub loop-i-holds : need.loop-i-holds
@@ -25,16 +25,16 @@ add-found c =
     let z : c .loop-i .found + c .claims-found .result < 2 ^ 8 = omega (arith, c .loop-i .inv .1, n, claiming-one (symbol-of ts i)) in
     search (needs, z)
 
-pub returns-then-found-gt60 : need.returns-then-found-gt60
-returns-then-found-gt60 c =
+pub returns-then-too-crowded : need.returns-then-too-crowded
+returns-then-too-crowded c =
     let t = c .args .tokens .now in
     let ts = symbols-of t in
     let i = c .loop-i .i in
     let h = inside t i _ (c .len-i-end .ensures) (c .loop-i-test .taken) in
     let n = c .claims-found .ensures _ (tag-at ts i h (c .tag .ensures)) in
     faulted-at _ (ap TooManyClaims (c .place .ensures)) (record {
-      stands = claimed-at ts i h (omega (arith, c .loop-i .inv .1, n, c .if-found-gt60 .taken));
-      before = omega (arith, c .loop-i .inv .0, c .loop-i .inv .1, n, claiming-one (symbol-of ts i), c .if-found-gt60 .taken);
+      stands = claimed-at ts i h (omega (arith, c .loop-i .inv .1, n, is-over _ _ (c .if-too-crowded .ensures tt)));
+      before = omega (arith, c .loop-i .inv .0, c .loop-i .inv .1, n, claiming-one (symbol-of ts i), is-over _ _ (c .if-too-crowded .ensures tt));
     })
 
 pub loop-i-again : need.loop-i-again
@@ -44,7 +44,7 @@ loop-i-again c =
     let i = c .loop-i .i in
     let h = inside t i _ (c .len-i-end .ensures) (c .loop-i-test .taken) in
     let n = c .claims-found .ensures _ (tag-at ts i h (c .tag .ensures)) in
-    (omega (arith, count-more claiming ts i h, n, c .loop-i .inv .0), c .if-found-gt60 .left)
+    (omega (arith, count-more claiming ts i h, n, c .loop-i .inv .0), is-under _ _ (c .if-too-crowded .ensures tt))
 
 pub returns : need.returns
 returns c =

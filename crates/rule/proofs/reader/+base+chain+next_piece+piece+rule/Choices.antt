@@ -6,19 +6,22 @@ use Rattle.rule.specs.Trees.{as-pattern}
 use Rattle.rule.specs.Built.{nodes-of, Made}
 use Rattle.rule.specs.Stored.{symbols-of}
 use Rattle.rule.specs.Readers.{BaseEnds, ChainSoFar, RuleSoFar}
-use Rattle.rule.proofs.reader.+base+chain+piece+rule.Given as given
+use Rattle.rule.proofs.reader.+base+chain+next_piece+piece+rule.Given as given
 
 abbrev pub μ-base : given.MeasureT-base
-μ-base l = 4 * (length (symbols-of (l .tokens .now)) - l .at)
+μ-base l = 5 * (length (symbols-of (l .tokens .now)) - l .at)
 
 abbrev pub μ-piece : given.MeasureT-piece
-μ-piece l = 4 * (length (symbols-of (l .tokens .now)) - l .at) + 1
+μ-piece l = 5 * (length (symbols-of (l .tokens .now)) - l .at) + 1
+
+abbrev pub μ-next-piece : given.MeasureT-next-piece
+μ-next-piece l = 5 * (length (symbols-of (l .tokens .now)) - l .at) + 2
 
 abbrev pub μ-chain : given.MeasureT-chain
-μ-chain l = 4 * (length (symbols-of (l .tokens .now)) - l .at) + 2
+μ-chain l = 5 * (length (symbols-of (l .tokens .now)) - l .at) + 3
 
 abbrev pub μ-rule : given.MeasureT-rule
-μ-rule l = 4 * (length (symbols-of (l .tokens .now)) - l .at) + 3
+μ-rule l = 5 * (length (symbols-of (l .tokens .now)) - l .at) + 4
 
 abbrev pub Inv-piece-loop-tree : given.InvT-piece-loop-tree
 Inv-piece-loop-tree l =

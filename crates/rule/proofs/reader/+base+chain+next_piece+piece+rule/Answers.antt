@@ -16,7 +16,7 @@ use Rattle.rule.proofs.Peeks.{here, lacks}
 use Rattle.rule.proofs.Rooms.{ready-to, ready-next, room-to}
 use Rattle.rule.proofs.ClaimSteps.{claim-closed, claim-cut}
 use Rattle.rule.proofs.Steps.{base-blank, base-stops, base-round, base-unclosed, base-inner, base-square, base-unsquare, piece-more, chain-first, chain-more, chain-fails, chain-none, rule-first, rule-more, rule-fails, rule-none}
-use Rattle.rule.proofs.reader.+base+chain+piece+rule.Needs as need
+use Rattle.rule.proofs.reader.+base+chain+next_piece+piece+rule.Needs as need
 
 pub chain-add-left : need.chain-add-left
 chain-add-left t c =
@@ -26,8 +26,8 @@ chain-add-left t c =
     let z : c .loop-tree .left .next + 1 < 2 ^ 64 = omega (arith, m .is .within, c .pre .inside .short) in
     search (needs, z)
 
-pub chain-piece-requires-in-Dot : need.chain-piece-requires-in-Dot
-chain-piece-requires-in-Dot t c κs =
+pub chain-next-piece-requires : need.chain-next-piece-requires
+chain-next-piece-requires t c κs =
     let ts = symbols-of (c .args .tokens .now) in
     let a = c .in-Continue-left .ensures tt in
     let m = c .loop-tree .inv _ _ (same (ChainSoFar ts (c .args .at)) (c .args .at) (c .args .at) a (omega arith) (chain-first ts (c .args .at) _ _ (a .is))) in
