@@ -1,5 +1,5 @@
-// The canonical text of a rule's tree, in full brackets. By the grammar it is a text of the same tree, though its brackets can take
-// it over the limits. That this text is written is proved; that it reads back is not.
+// The canonical text of a rule's tree, in full brackets. That this text is written is proved. It is made to be a text of the same
+// tree by the grammar, which is only tested; its brackets can take it over the limits.
 ghost use mathlib.Core.Path.{_≡_};
 ghost use denote.Ref.{now};
 ghost use Rattle.std.specs.declared.option.Option.the-variants.{Some};

@@ -1,22 +1,24 @@
 -- Texts cut by hand, token by token.
 use mathlib.Core.Path.{_≡_, refl}
 use mathlib.Core.List.{List, [], _∷_}
-use Prim.Native.Nat.{ℕ, zero, suc, _+_, _<_, _≤_}
+use Prim.Native.Nat.{ℕ, zero, suc, _+_, _≤_}
 use native.Mathlib.Omega.{arith}
 use lib.Chars.{codes}
-use lib.ListN.{length, take}
+use lib.ListN.{take}
 use Rattle.std.specs.declared.option.Option.the-variants.{None, Some}
 use Rattle.grammar.specs.declared.Refusal.the-variants.{NotAToken, Unexpected}
-use Rattle.grammar.specs.Symbol.{Symbol, LeftSquare, RightSquare, FieldName}
+use Rattle.grammar.specs.Symbol.{Symbol, LeftSquare, RightSquare, True, FieldName}
 use Rattle.grammar.specs.declared.Field.the-variants.{C1}
+use Rattle.grammar.specs.Tree.{claim, truth}
 use Rattle.grammar.specs.Spelling.{Spells}
-use Rattle.grammar.specs.Cutting.{Placed, placed, symbols, Cut, cut-end, cut-token, Uncut, uncut-lexeme, uncut-later}
+use Rattle.grammar.specs.Cutting.{Placed, placed, symbols, Cut, cut-end, cut-token, uncut-lexeme, uncut-later}
 use Rattle.grammar.specs.Limits.{count, opening, Shallow}
 use Rattle.grammar.specs.Reading.{Within, no-token, unexpected}
 use Rattle.grammar.proofs.Lexemes.{word-longest, one-longest}
 use Rattle.grammar.proofs.Cuts.{spells-spelled}
 use Rattle.grammar.proofs.Fault.{first-bad}
-use Rattle.examples.specs.Examples.{RefusedBy}
+use Rattle.grammar.proofs.Sound.{run-rule}
+use Rattle.examples.specs.Examples.{RefusedBy, ReadAs}
 
 count-front : (f : Symbol → ℕ) (k : ℕ) (ts : List Symbol) → count f (take k ts) ≤ count f ts
 count-front f zero ts = omega arith
@@ -32,6 +34,28 @@ empty-within = record { short = omega arith; cut = cut-end; few = omega arith; s
 
 pub empty-text : RefusedBy 7 0 (codes "")
 empty-text n w = (Unexpected 0, unexpected w empty-within (first-bad [] [] refl), refl, refl)
+
+-- `[true]`
+true-tokens : List Placed
+true-tokens = placed LeftSquare 0 ∷ placed True 1 ∷ placed RightSquare 5 ∷ []
+
+true-cut : Cut 0 (codes "[true]") true-tokens
+unfolding true-tokens
+true-cut =
+    cut-token (one-longest 91 (codes "true]") LeftSquare refl refl .0) refl
+    (cut-token (word-longest 116 (codes "rue]") refl) refl
+    (cut-token (one-longest 93 [] RightSquare refl refl .0) refl cut-end))
+
+pub always-true : ReadAs (claim truth) (codes "[true]")
+unfolding true-tokens
+always-true n w = (
+  true-tokens,
+  record {
+    numbered = w;
+    within = record { short = omega arith; cut = true-cut; few = omega arith; shallow = no-round (symbols true-tokens) refl; uncrowded = omega arith };
+    derived = run-rule (symbols true-tokens) (claim truth) refl;
+  },
+)
 
 -- `[c1]`
 c1-tokens : List Placed

@@ -1,16 +1,16 @@
 -- Complete, for claims: the machine reads each claim to its tree.
 use mathlib.Core.List.{List, [], _∷_, _++_, append-assoc}
-use mathlib.Core.Path.{_≡_, refl, sym, _∙_, ap, subst}
+use mathlib.Core.Path.{_≡_, refl, sym, _∙_, ap}
 use mathlib.Core.Option.{Option, none, some}
 use mathlib.Core.Bool.{Bool, true, false}
 use Prim.Native.Nat.{ℕ, zero, suc, _≤_, _<_}
 use native.Mathlib.Omega.{arith}
 use lib.Dec.{T, leb, ltb, leb→le, le→leb, lt→ltb}
-use Rattle.grammar.specs.Symbol.{Sign, Plus, Minus, Relation, Symbol, RightSquare, LeftRound, RightRound, Quote, Arrow, And, Or, Not, Has, True, Additive, Relational, Number, FieldName, Field, Name, Plain, Newest, Term, Constant, Named}
-use Rattle.grammar.specs.Tree.{Sum, first, more, terms, Claim, implication, disjunction, conjunction, negation, truth, presence, comparison}
-use Rattle.grammar.specs.Claims.{IsName, unquoted, quoted, IsTerm, a-number, a-name, Terms, one-term, minus-term, joined-terms, IsSum, to-eight, IsClaim, one-either, implied, IsEither, one-both, joined-boths, IsBoth, one-single, joined-singles, IsSingle, denied, bracketed, is-true, is-known, compared}
+use Rattle.grammar.specs.Symbol.{Sign, Plus, Minus, Relation, Symbol, RightSquare, RightRound, Arrow, And, Or, Additive, Relational, Field, Name, Plain, Newest, Term, Named}
+use Rattle.grammar.specs.Tree.{Sum, terms, Claim, implication, disjunction, conjunction, negation, presence, comparison}
+use Rattle.grammar.specs.Claims.{IsName, unquoted, quoted, IsTerm, a-number, a-name, Terms, one-term, minus-term, joined-terms, to-eight, IsClaim, one-either, implied, IsEither, one-both, joined-boths, IsBoth, one-single, joined-singles, IsSingle, denied, bracketed, is-true, is-known, compared}
 use Rattle.grammar.specs.Views.{AfterSingle, after-Quote, after-Additive, after-Relational, after-And, after-Or, after-Arrow, after-RightRound, after-RightSquare, after-other, after-single}
-use Rattle.grammar.specs.ClaimMachine.{ClaimFrame, claim-frame, fresh, with-nots, with-both, with-either, with-if, with-sum, Side, left, right, ClaimState, single-wanted, single-had, name-wanted, name-had, sum-wanted, term-wanted, term-named, term-had, ClaimStep, on, closed, stuck, if-quote, if-sign, if-cmp, if-and, if-or, on-either, on-both, on-single, on-had, if-room, on-sum, on-term, claim-step, claim-start, ClaimOut, claim-good, claim-bad, claim-follow, claim-run}
+use Rattle.grammar.specs.ClaimMachine.{ClaimFrame, claim-frame, fresh, with-if, with-sum, Side, left, right, ClaimState, single-wanted, single-had, name-wanted, name-had, sum-wanted, term-wanted, term-named, term-had, ClaimStep, on, if-quote, if-sign, if-and, if-or, on-either, on-both, on-had, if-room, on-term, claim-start, claim-good, claim-follow, claim-run}
 
 -- how far out the thing is that a token can still go on with: 0 a name, 1 a sum, 2 a both, 3 an either, 4 a claim, 5 none of them
 abbrev pub rank : {t : Symbol} → AfterSingle t → ℕ

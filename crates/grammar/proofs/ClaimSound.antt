@@ -1,16 +1,16 @@
 -- Sound, for claims: what the machine reads is a claim of the tree that it answers.
 use mathlib.Core.List.{List, [], _∷_, _++_, append-assoc}
-use mathlib.Core.Path.{_≡_, refl, sym, _∙_, ap, subst}
+use mathlib.Core.Path.{_≡_, refl, sym, subst}
 use mathlib.Core.Option.{Option, none, some}
 use mathlib.Core.Bool.{Bool, true, false}
-use Prim.Native.Nat.{ℕ, zero, suc, _≤_, _<_}
+use Prim.Native.Nat.{ℕ, zero, suc, _<_}
 use native.Mathlib.Omega.{arith}
 use lib.Dec.{T, ltb, ltb→lt}
-use Rattle.grammar.specs.Symbol.{Sign, Plus, Minus, Relation, Equal, Symbol, RightSquare, LeftRound, RightRound, Quote, Arrow, And, Or, Not, Has, True, Additive, Relational, Number, FieldName, Field, Name, Plain, Newest, Term, Constant, Named}
-use Rattle.grammar.specs.Tree.{Sum, first, more, terms, Claim, implication, disjunction, conjunction, negation, truth, presence, comparison}
-use Rattle.grammar.specs.Claims.{IsName, unquoted, quoted, IsTerm, a-number, a-name, Terms, one-term, minus-term, joined-terms, IsSum, to-eight, IsClaim, one-either, implied, IsEither, one-both, joined-boths, IsBoth, one-single, joined-singles, IsSingle, denied, bracketed, is-true, is-known, compared}
+use Rattle.grammar.specs.Symbol.{Sign, Plus, Minus, Relation, Symbol, RightSquare, LeftRound, RightRound, Quote, Arrow, And, Or, Not, Has, Additive, Relational, FieldName, Field, Plain, Newest, Term, Named}
+use Rattle.grammar.specs.Tree.{Sum, terms, Claim, presence}
+use Rattle.grammar.specs.Claims.{unquoted, quoted, IsTerm, a-number, a-name, Terms, one-term, minus-term, joined-terms, IsSum, to-eight, IsClaim, one-either, implied, IsEither, one-both, joined-boths, IsBoth, one-single, joined-singles, IsSingle, denied, bracketed, is-true, is-known, compared}
 use Rattle.grammar.specs.Views.{AtSingle, single-Not, single-LeftRound, single-True, single-Has, single-Additive, single-Number, single-FieldName, single-other, at-single, AfterSingle, after-Quote, after-Additive, after-Relational, after-And, after-Or, after-Arrow, after-RightRound, after-RightSquare, after-other, after-single}
-use Rattle.grammar.specs.ClaimMachine.{ClaimFrame, claim-frame, fresh, with-nots, with-both, with-either, with-if, with-sum, Side, left, right, ClaimState, single-wanted, single-had, name-wanted, name-had, sum-wanted, term-wanted, term-named, term-had, ClaimStep, on, closed, stuck, if-quote, if-sign, if-cmp, if-and, if-or, on-either, on-both, on-single, on-had, if-room, on-sum, on-term, want-name, want-term, want-sum, want-single, claim-step, claim-start, ClaimOut, claim-good, claim-bad, claim-follow, claim-run}
+use Rattle.grammar.specs.ClaimMachine.{ClaimFrame, claim-frame, fresh, with-nots, with-both, with-either, with-if, with-sum, Side, left, right, ClaimState, single-wanted, single-had, name-wanted, name-had, sum-wanted, term-wanted, term-named, term-had, ClaimStep, on, closed, stuck, if-quote, if-sign, if-cmp, if-and, if-or, on-either, on-both, on-had, if-room, on-sum, on-term, want-name, want-term, want-sum, want-single, claim-step, claim-start}
 
 -- the tokens since the `[` that lead to a place where a single is wanted
 pub data At : List Symbol → ClaimFrame → List ClaimFrame → Type 0 where

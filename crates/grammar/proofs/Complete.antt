@@ -2,12 +2,12 @@
 use mathlib.Core.List.{List, [], _∷_, _++_, append-assoc, append-nil}
 use mathlib.Core.Path.{_≡_, refl, sym, _∙_, ap}
 use mathlib.Core.Option.{Option, none, some}
-use Rattle.grammar.specs.Symbol.{Symbol, LeftSquare, RightSquare, LeftRound, RightRound, Bar, Dot, Star, Underscore}
-use Rattle.grammar.specs.Tree.{Claim, Pattern, empty, claim, alternative, sequence, star}
-use Rattle.grammar.specs.Views.{AtBase, base-Underscore, base-LeftRound, base-LeftSquare, base-other, at-base, AfterPiece, piece-Star, piece-Dot, piece-Bar, piece-RightRound, piece-other, after-piece}
+use Rattle.grammar.specs.Symbol.{Symbol, RightSquare, RightRound, Bar, Dot, Star}
+use Rattle.grammar.specs.Tree.{Pattern, claim}
+use Rattle.grammar.specs.Views.{AfterPiece, piece-Star, piece-Dot, piece-Bar, piece-RightRound, piece-other, after-piece}
 use Rattle.grammar.specs.ClaimMachine.{ClaimState, claim-start, ClaimStep, on, closed, stuck, claim-step, claim-follow, claim-run, ClaimOut, claim-good, claim-bad}
 use Rattle.grammar.specs.Patterns.{Rule, one-chain, joined-chains, Chain, one-piece, joined-pieces, Piece, bare, starred, Base, blank, round, square}
-use Rattle.grammar.specs.Machine.{Frame, frame, with-chain, with-rule, State, want, have, inside, Next, stop, go, on-want, on-have, on-inside, step, Out, good, bad, at-end, follow, run, start}
+use Rattle.grammar.specs.Machine.{Frame, frame, with-chain, with-rule, State, want, have, inside, Next, on-have, on-inside, Out, good, bad, follow, run, start}
 use Rattle.grammar.proofs.ClaimComplete.{claim-runs}
 
 -- no `*` comes next; neither `*` nor `.` comes next

@@ -1,9 +1,9 @@
 -- A rule's symbols have one `[` for each claim of its tree.
 use mathlib.Core.List.{List, [], _∷_, _++_}
-use mathlib.Core.Path.{_≡_, refl, sym, _∙_, ap}
+use mathlib.Core.Path.{_≡_, refl}
 use Prim.Native.Nat.{ℕ, _+_}
 use native.Mathlib.Omega.{arith}
-use Rattle.grammar.specs.Symbol.{Symbol, LeftSquare, RightSquare, LeftRound, RightRound, Bar, Dot, Star, Arrow, And, Or, Additive, Relational, Name, Term}
+use Rattle.grammar.specs.Symbol.{Symbol, RightSquare, RightRound, Bar, Dot, Star, Arrow, And, Or, Additive, Relational, Name, Term}
 use Rattle.grammar.specs.Tree.{Sum, Claim, Pattern, claims-in}
 use Rattle.grammar.specs.Claims.{IsName, unquoted, quoted, IsTerm, a-number, a-name, Terms, one-term, minus-term, joined-terms, IsSum, to-eight, IsClaim, one-either, implied, IsEither, one-both, joined-boths, IsBoth, one-single, joined-singles, IsSingle, denied, bracketed, is-true, is-known, compared}
 use Rattle.grammar.specs.Patterns.{Rule, one-chain, joined-chains, Chain, one-piece, joined-pieces, Piece, bare, starred, Base, blank, round, square}

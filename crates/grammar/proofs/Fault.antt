@@ -1,16 +1,14 @@
 -- The place of a fault: the tokens before it can go on to a rule, and with the token there they cannot.
-use mathlib.Core.List.{List, [], _∷_, _++_, append-assoc, append-nil}
+use mathlib.Core.List.{List, [], _∷_, _++_, append-assoc}
 use mathlib.Core.Path.{_≡_, refl, sym, _∙_, ap, subst}
-use mathlib.Core.Option.{Option, none, some}
-use Prim.Native.Nat.{ℕ, suc, _+_, _-_, _<_, _≤_}
+use mathlib.Core.Option.{none}
+use Prim.Native.Nat.{ℕ, suc, _+_, _-_, _<_}
 use native.Mathlib.Omega.{arith}
 use native.Mathlib.Numerals.{add-one}
 use lib.ListN.{length, take, length-append}
 use Rattle.grammar.specs.Symbol.{Symbol, RightRound, Underscore}
-use Rattle.grammar.specs.Tree.{Claim, Pattern, empty, claim}
-use Rattle.grammar.specs.ClaimMachine.{ClaimState, claim-start, claim-run, claim-good}
-use Rattle.grammar.specs.Patterns.{Rule}
-use Rattle.grammar.specs.Machine.{Frame, frame, with-chain, with-rule, State, want, have, inside, Next, stop, go, step, Out, good, bad, at-end, follow, run, start}
+use Rattle.grammar.specs.Tree.{Pattern, empty, claim}
+use Rattle.grammar.specs.Machine.{Frame, frame, with-chain, with-rule, State, want, have, inside, Next, stop, go, step, good, bad, at-end, follow, run, start}
 use Rattle.grammar.specs.Viable.{Viable, FirstBad}
 use Rattle.grammar.proofs.ClaimEnds.{claim-end}
 use Rattle.grammar.proofs.Complete.{inside-runs, then-have, run-complete}

@@ -16,7 +16,7 @@ use Rattle.std.proofs.shelf.Ways.{tells}
 use Rattle.std.specs.declared.option.Option.{Option}
 use Rattle.std.specs.declared.option.Option.the-variants.{Some, None}
 use Rattle.grammar.specs.Symbol.{Plus, Minus, Equal, NotEqual, Less, LessOrEqual, Greater, GreaterOrEqual, Symbol, LeftSquare, RightSquare, LeftRound, RightRound, Bar, Dot, Star, Underscore, Quote, Arrow, And, Or, Not, Has, True, Additive, Relational, Number, FieldName}
-use Rattle.grammar.specs.Spelling.{space, wordly, All, Word, Digits, Spells, mark}
+use Rattle.grammar.specs.Spelling.{space, word-part, All, Word, Digits, Spells, mark}
 use Rattle.grammar.specs.Marks.{two-byte-mark, one-byte-mark}
 use Rattle.grammar.specs.Cutting.{Lexeme, a-word, a-number, a-mark, Longest}
 
@@ -31,7 +31,7 @@ mark-length None None = 0
 abbrev reach : List ℕ → ℕ
 reach [] = 0
 reach (b ∷ bs) =
-    cond (asciiLetter b) (leading wordly (b ∷ bs))
+    cond (asciiLetter b) (leading word-part (b ∷ bs))
     (cond (asciiDigit b) (leading asciiDigit (b ∷ bs)) (mark-length (two-byte-mark b (getD bs 0 0)) (one-byte-mark b)))
 
 T-true : {b : Bool} → b ≡ true → T b
@@ -42,13 +42,13 @@ pub true-T : (b : Bool) → T b → b ≡ true
 true-T true t = refl
 true-T false t = absurd t
 
-letter-wordly : (b : ℕ) → asciiLetter b ≡ true → wordly b ≡ true
-letter-wordly b h = grind (arith, tells)
+letter-word-part : (b : ℕ) → asciiLetter b ≡ true → word-part b ≡ true
+letter-word-part b h = grind (arith, tells)
 
 digit-apart : (b : ℕ) → asciiDigit b ≡ true → asciiLetter b ≡ false
 digit-apart b h = grind (arith, tells)
 
-reach-word : (b : ℕ) (bs : List ℕ) → asciiLetter b ≡ true → reach (b ∷ bs) ≡ leading wordly (b ∷ bs)
+reach-word : (b : ℕ) (bs : List ℕ) → asciiLetter b ≡ true → reach (b ∷ bs) ≡ leading word-part (b ∷ bs)
 reach-word b bs h = cond-true (asciiLetter b) _ _ h
 
 reach-number : (b : ℕ) (bs : List ℕ) → asciiDigit b ≡ true → reach (b ∷ bs) ≡ leading asciiDigit (b ∷ bs)
@@ -77,8 +77,8 @@ module _ (p : ℕ → Bool) where
       by-test true h a = subst (All p) (sym (front-cons b bs h)) (T-true h, a)
       by-test false h a = subst (All p) (sym (ap (λ n. take n (b ∷ bs)) (cond-false (p b) _ _ h))) tt
 
-pub word-is : (b : ℕ) (bs : List ℕ) → asciiLetter b ≡ true → Word (take (leading wordly (b ∷ bs)) (b ∷ bs))
-word-is b bs h = subst Word (sym (front-cons wordly b bs (letter-wordly b h))) (T-true h, all-leading wordly bs)
+pub word-is : (b : ℕ) (bs : List ℕ) → asciiLetter b ≡ true → Word (take (leading word-part (b ∷ bs)) (b ∷ bs))
+word-is b bs h = subst Word (sym (front-cons word-part b bs (letter-word-part b h))) (T-true h, all-leading word-part bs)
 
 pub digits-is : (b : ℕ) (bs : List ℕ) → asciiDigit b ≡ true → Digits (take (leading asciiDigit (b ∷ bs)) (b ∷ bs))
 digits-is b bs h = subst Digits (sym (front-cons asciiDigit b bs h)) (T-true h, all-leading asciiDigit bs)
@@ -91,7 +91,7 @@ word-reached : (v back : List ℕ) → Word v → Reached back v
 word-reached [] back w = absurd w
 word-reached (b ∷ v) back w =
     let h = true-T (asciiLetter b) (w .0) in
-    (omega arith, omega (arith, reach-word b (v ++ back) h, all-within wordly (b ∷ v) back (T-true (letter-wordly b h), w .1)))
+    (omega arith, omega (arith, reach-word b (v ++ back) h, all-within word-part (b ∷ v) back (T-true (letter-word-part b h), w .1)))
 
 number-reached : (v back : List ℕ) → Digits v → Reached back v
 number-reached [] back w = absurd w
@@ -148,8 +148,8 @@ reaches w rest l n = record { lexeme = l; longest = λ v back m e. omega (arith,
 front-longest : (n b : ℕ) (bs : List ℕ) → n ≤ length (b ∷ bs) → reach (b ∷ bs) ≡ n → Lexeme (take n (b ∷ bs)) → Longest (take n (b ∷ bs)) (drop n (b ∷ bs))
 front-longest n b bs le r l = reaches (take n (b ∷ bs)) (drop n (b ∷ bs)) l (length-take-le n (b ∷ bs) le ∙ sym r ∙ ap reach (sym (take-append-drop n (b ∷ bs))))
 
-pub word-longest : (b : ℕ) (bs : List ℕ) → asciiLetter b ≡ true → Longest (take (leading wordly (b ∷ bs)) (b ∷ bs)) (drop (leading wordly (b ∷ bs)) (b ∷ bs))
-word-longest b bs h = front-longest (leading wordly (b ∷ bs)) b bs (leading-le-length wordly (b ∷ bs)) (reach-word b bs h) (a-word (word-is b bs h))
+pub word-longest : (b : ℕ) (bs : List ℕ) → asciiLetter b ≡ true → Longest (take (leading word-part (b ∷ bs)) (b ∷ bs)) (drop (leading word-part (b ∷ bs)) (b ∷ bs))
+word-longest b bs h = front-longest (leading word-part (b ∷ bs)) b bs (leading-le-length word-part (b ∷ bs)) (reach-word b bs h) (a-word (word-is b bs h))
 
 pub number-longest : (b : ℕ) (bs : List ℕ) → asciiDigit b ≡ true → Longest (take (leading asciiDigit (b ∷ bs)) (b ∷ bs)) (drop (leading asciiDigit (b ∷ bs)) (b ∷ bs))
 number-longest b bs h = front-longest (leading asciiDigit (b ∷ bs)) b bs (leading-le-length asciiDigit (b ∷ bs)) (reach-number b bs h) (a-number (digits-is b bs h))

@@ -1,16 +1,15 @@
 -- Sound: what the machine reads is a rule of the tree that it answers.
 use mathlib.Core.List.{List, [], _∷_, _++_, append-assoc, append-nil}
-use mathlib.Core.Path.{_≡_, refl, sym, _∙_, ap, subst}
+use mathlib.Core.Path.{_≡_, subst}
 use mathlib.Core.Option.{Option, none, some}
 use Prim.Native.Nat.{ℕ}
 use native.Mathlib.Omega.{arith}
-use Rattle.grammar.specs.Symbol.{Symbol, LeftSquare, RightSquare, LeftRound, RightRound, Bar, Dot, Star, Underscore}
-use Rattle.grammar.specs.Tree.{Claim, Pattern, empty, claim, alternative, sequence, star}
+use Rattle.grammar.specs.Symbol.{Symbol, LeftSquare, LeftRound, RightRound, Bar, Dot}
+use Rattle.grammar.specs.Tree.{Pattern}
 use Rattle.grammar.specs.Views.{AtBase, base-Underscore, base-LeftRound, base-LeftSquare, base-other, at-base, AfterPiece, piece-Star, piece-Dot, piece-Bar, piece-RightRound, piece-other, after-piece}
-use Rattle.grammar.specs.Claims.{IsClaim}
-use Rattle.grammar.specs.ClaimMachine.{ClaimState, claim-start, ClaimStep, on, closed, stuck, claim-step}
-use Rattle.grammar.specs.Patterns.{Rule, one-chain, joined-chains, Chain, one-piece, joined-pieces, Piece, bare, starred, Base, blank, round, square}
-use Rattle.grammar.specs.Machine.{Frame, frame, with-chain, with-rule, State, want, have, inside, Next, stop, go, on-want, on-have, on-inside, step, Out, good, bad, at-end, follow, run, start}
+use Rattle.grammar.specs.ClaimMachine.{ClaimState, ClaimStep, on, closed, stuck, claim-step}
+use Rattle.grammar.specs.Patterns.{Rule, one-chain, joined-chains, Chain, one-piece, joined-pieces, Piece, bare, starred, blank, round, square}
+use Rattle.grammar.specs.Machine.{Frame, frame, with-chain, with-rule, State, want, have, inside, Next, stop, go, on-want, on-have, on-inside, step, good, bad, at-end, follow, run, start}
 use Rattle.grammar.proofs.ClaimSound.{ClaimReads, ClaimFine, claim-fine, claim-begun}
 
 -- the tokens that lead to a place where a base is wanted, under these frames

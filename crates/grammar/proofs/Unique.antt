@@ -23,7 +23,7 @@ use Rattle.grammar.proofs.Complete as complete
 use Rattle.grammar.proofs.Cuts.{cut-one, cut-or-uncut, uncut-one}
 
 pub one-tree : OneTree
-one-tree text ts us x y c d e f = complete.one-tree d (subst (λ (l : List Placed). Rule (symbols l) y) (cut-one e c) f)
+one-tree text ts us x y c d e f = (cut-one c e, complete.one-tree d (subst (λ (l : List Placed). Rule (symbols l) y) (cut-one e c) f))
 
 -- a cause that rules out a later one stands at one place only
 module _ {C : ℕ → Type 0} (first : (j k : ℕ) → j < k → C j → C k → ⊥) where

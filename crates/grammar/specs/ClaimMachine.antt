@@ -1,15 +1,16 @@
--- Reading a claim token by token, up to its closing `]`. A state is what stands open to the left.
-use mathlib.Core.List.{List, [], _∷_, _++_}
+-- Reading a claim symbol by symbol, up to its closing `]`. A state is what stands open to the left. Only proofs and private
+-- contracts speak of this machine: what a text means is said by the grammar.
+use mathlib.Core.List.{List, [], _∷_}
 use mathlib.Core.Option.{Option, none, some}
 use mathlib.Core.Bool.{Bool, true, false}
 use Prim.Native.Nat.{ℕ, zero, suc}
 use lib.Dec.{ltb}
-use Rattle.grammar.specs.Symbol.{Sign, Plus, Minus, Relation, Symbol, RightSquare, Field, Name, Plain, Newest, Term, Constant, Named}
+use Rattle.grammar.specs.Symbol.{Sign, Plus, Minus, Relation, Symbol, Field, Plain, Newest, Term, Constant, Named}
 use Rattle.grammar.specs.Tree.{Sum, first, more, terms, Claim, implication, disjunction, conjunction, negation, truth, presence, comparison}
 use Rattle.grammar.specs.Views.{AtSingle, single-Not, single-LeftRound, single-True, single-Has, single-Additive, single-Number, single-FieldName, single-other, at-single, AfterSingle, after-Quote, after-Additive, after-Relational, after-And, after-Or, after-Arrow, after-RightRound, after-RightSquare, after-other, after-single}
 
 -- what was joined so far at one depth of round brackets: the either before `=>`, the either before the last `or`, the both
--- before the last `and`, and the Number of `not` after that
+-- before the last `and`, and how many `not` stand after that
 pub data ClaimFrame : Type 0 where
   claim-frame : Option Claim → Option Claim → Option Claim → ℕ → ClaimFrame
 
@@ -200,7 +201,7 @@ claim-step (term-had g H h s) t = on-term g H h s (after-single t)
 abbrev pub claim-start : ClaimState
 claim-start = single-wanted fresh []
 
--- a claim and what stands after its `]`, or the tokens from the first bad one on
+-- a claim and what stands after its `]`, or the symbols from the first bad one on
 pub data ClaimOut : Type 0 where
   claim-good : Claim → List Symbol → ClaimOut
   claim-bad : List Symbol → ClaimOut

@@ -1,8 +1,8 @@
 -- The limits on the tokens of a rule text.
 use mathlib.Core.Path.{_≡_}
 use mathlib.Core.List.{List, [], _∷_}
-use Prim.Native.Nat.{ℕ, _+_, _<_, _≤_}
-use lib.ListN.{length, take, drop}
+use Prim.Native.Nat.{ℕ, _+_, _<_}
+use lib.ListN.{take, drop}
 use Rattle.grammar.specs.Symbol.{Symbol, LeftSquare, LeftRound}
 use Rattle.grammar.specs.Views.{AtBase, base-Underscore, base-LeftRound, base-LeftSquare, base-other, at-base, AfterPiece, piece-Star, piece-Dot, piece-Bar, piece-RightRound, piece-other, after-piece}
 
@@ -49,7 +49,7 @@ claiming t = claiming-at (at-base t)
 abbrev pub closing : Symbol → ℕ
 closing t = closing-at (after-piece t)
 
--- how many of them there are
+-- the sum of f over the symbols: with the functions above, how many such symbols there are
 abbrev pub count : (Symbol → ℕ) → List Symbol → ℕ
 count f [] = 0
 count f (t ∷ ts) = f t + count f ts
@@ -63,12 +63,12 @@ pub record Deep (ts : List Symbol) (k : ℕ) : Type 0 where
   pub stands : Stands ts k LeftRound
   pub over : count closing (take (k + 1) ts) + depth-limit < count opening (take (k + 1) ts)
 
--- the first of them
+-- the first `(` that is too deep
 pub record FirstDeep (ts : List Symbol) (k : ℕ) : Type 0 where
   pub deep : Deep ts k
   pub first : (j : ℕ) → j < k → Deep ts j → ⊥
 
--- no `(` is one
+-- no `(` is too deep
 abbrev pub Shallow : List Symbol → Type 0
 Shallow ts = (k : ℕ) → Deep ts k → ⊥
 

@@ -1,8 +1,9 @@
--- Reading a rule token by token. A state is what stands open to the left; a step takes one token or stops.
-use mathlib.Core.List.{List, [], _∷_, _++_}
+-- Reading a rule symbol by symbol. A state is what stands open to the left; a step takes one symbol or stops. Only proofs and
+-- private contracts speak of this machine: what a text means is said by the grammar.
+use mathlib.Core.List.{List, [], _∷_}
 use mathlib.Core.Option.{Option, none, some}
-use Rattle.grammar.specs.Symbol.{Symbol, LeftSquare, RightSquare, LeftRound, RightRound, Bar, Dot, Star, Underscore}
-use Rattle.grammar.specs.Tree.{Claim, Pattern, empty, claim, alternative, sequence, star}
+use Rattle.grammar.specs.Symbol.{Symbol}
+use Rattle.grammar.specs.Tree.{Pattern, empty, claim, alternative, sequence, star}
 use Rattle.grammar.specs.Views.{AtBase, base-Underscore, base-LeftRound, base-LeftSquare, base-other, at-base, AfterPiece, piece-Star, piece-Dot, piece-Bar, piece-RightRound, piece-other, after-piece}
 use Rattle.grammar.specs.ClaimMachine.{ClaimState, claim-start, ClaimStep, on, closed, stuck, claim-step}
 
@@ -51,7 +52,7 @@ step (want f K) t = on-want f K (at-base t)
 step (have f K x) t = on-have f K x (after-piece t)
 step (inside f K s) t = on-inside f K (claim-step s t)
 
--- a whole rule, or the tokens from the first bad one on
+-- a whole rule, or the symbols from the first bad one on
 pub data Out : Type 0 where
   good : Pattern → Out
   bad : List Symbol → Out

@@ -1,4 +1,4 @@
--- Which mark one byte is, and which mark two bytes are.
+-- Which mark one byte is, and which mark two bytes are. The codes are those of ASCII: `[` is 91, `<` is 60, `=` is 61, `>` is 62.
 use mathlib.Core.Bool.{cond, _&&_}
 use Prim.Native.Nat.{ℕ}
 use lib.Dec.{eqb}

@@ -6,15 +6,15 @@ use Prim.Native.Nat.{ℕ, _+_, _-_, _*_, _≤_}
 use lib.Dec.{T}
 use lib.Chars.{codes}
 use Rattle.std.specs.Text.{asciiDigit, asciiLetter}
-use Rattle.grammar.specs.Symbol.{Sign, Plus, Minus, Relation, Equal, NotEqual, Less, LessOrEqual, Greater, GreaterOrEqual, Field, Op, Arg, C1, C2, C3, C4, C5, C6, Symbol, LeftSquare, RightSquare, LeftRound, RightRound, Bar, Dot, Star, Underscore, Quote, Arrow, And, Or, Not, Has, True, Additive, Relational, Number, FieldName}
+use Rattle.grammar.specs.Symbol.{Plus, Minus, Equal, NotEqual, Less, LessOrEqual, Greater, GreaterOrEqual, Op, Arg, C1, C2, C3, C4, C5, C6, Symbol, LeftSquare, RightSquare, LeftRound, RightRound, Bar, Dot, Star, Underscore, Quote, Arrow, And, Or, Not, Has, True, Additive, Relational, Number, FieldName}
 
 -- the byte of a space
 abbrev pub space : ℕ
 space = 32
 
 -- a byte that may stand in a word after its first letter
-abbrev pub wordly : ℕ → Bool
-wordly b = asciiLetter b || asciiDigit b
+abbrev pub word-part : ℕ → Bool
+word-part b = asciiLetter b || asciiDigit b
 
 abbrev pub All : (ℕ → Bool) → List ℕ → Type 0
 All p [] = Unit {0}
@@ -23,7 +23,7 @@ All p (b ∷ bs) = T (p b) × All p bs
 -- a letter, and letters and digits after it
 abbrev pub Word : List ℕ → Type 0
 Word [] = ⊥
-Word (b ∷ bs) = T (asciiLetter b) × All wordly bs
+Word (b ∷ bs) = T (asciiLetter b) × All word-part bs
 
 -- one digit or more
 abbrev pub Digits : List ℕ → Type 0

@@ -1,4 +1,5 @@
--- What a token is to each kind of place in a rule: one of those that can stand there, or another.
+-- What a symbol is to each kind of place in a rule: one of those that can stand there, or another. With these views the machine
+-- and its proofs have a case for each symbol that matters, and one for all others.
 use Prim.Native.Nat.{ℕ}
 use Rattle.grammar.specs.Symbol.{Sign, Relation, Symbol, LeftSquare, RightSquare, LeftRound, RightRound, Bar, Dot, Star, Underscore, Quote, Arrow, And, Or, Not, Has, True, Additive, Relational, Number, FieldName, Field}
 

@@ -128,7 +128,7 @@ impl Refusal {
     }
 }
 
-// No text has two trees or two refusals, or a tree and a refusal.
+// No text has two lists of tokens or two trees, and under one watch number none has two refusals, or is both allowed and refused.
 pub fn readings_are_unique()
     ensures one_tree { λ _. ⌜ OneTree ⌝ }
     ensures never_both { λ _. ⌜ NeverBoth ⌝ }

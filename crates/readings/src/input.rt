@@ -6,14 +6,14 @@ use std::str;
 
 // A text to read, and the watch number to read it under.
 #[derive(Clone, Copy)]
-pub struct Case<'a> {
+pub(crate) struct Case<'a> {
     pub watch: i32,
     pub text: &'a [u8],
 }
 
 impl<'a> Case<'a> {
     // The case of a line: a decimal number, a space and the text, which may be empty.
-    pub fn of(line: &'a [u8]) -> Option<Case<'a>> {
+    pub(crate) fn of(line: &'a [u8]) -> Option<Case<'a>> {
         let space = find(line, b' ');
         if space == line.len() {
             return None;
@@ -33,7 +33,7 @@ fn decimal(number: &[u8]) -> Option<i32> {
 }
 
 // The first line without its end, and what follows it.
-pub fn first_line(bytes: &[u8]) -> (&[u8], &[u8])
+pub(crate) fn first_line(bytes: &[u8]) -> (&[u8], &[u8])
     requires { ⌜ 0 < length (now bytes) ⌝ }
     ensures { λ r. ⌜ length (now (r .1)) < length (now (bytes .entry)) ⌝ }
 {

@@ -10,6 +10,7 @@ use rule::Rule;
 use std::io;
 use std::io::Read;
 
+// More bytes of input than this are not looked at.
 const LIMIT: u64 = 1_000_000;
 
 fn main(rt: LibcRuntime) -> io::Result<()> {

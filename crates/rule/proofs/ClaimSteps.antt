@@ -1,5 +1,5 @@
 -- How the answers of the readers of claims join.
-use mathlib.Core.List.{List, [], _∷_, _++_}
+use mathlib.Core.List.{List, [], _∷_}
 use mathlib.Core.Path.{_≡_, refl, sym, _∙_, ap, subst}
 use mathlib.Core.Logic.{_⊎_, inl, inr}
 use mathlib.Core.Bool.{Bool, true, false}
@@ -9,7 +9,7 @@ use native.Mathlib.Omega.{arith}
 use native.Mathlib.Numerals.{add-one}
 use lib.Dec.{T, ltb, lt→ltb, ltb→lt}
 use lib.ListN.{length, drop}
-use Rattle.grammar.specs.Symbol.{Symbol, LeftSquare, RightSquare, LeftRound, RightRound, Quote, Arrow, And, Or, Not, Has, True, Additive, Relational, Number, FieldName}
+use Rattle.grammar.specs.Symbol.{Symbol, RightSquare, LeftRound, RightRound, Quote, Arrow, And, Or, Not, Has, True, Additive, Relational, Number, FieldName}
 use Rattle.grammar.specs.declared.Sign.{Sign}
 use Rattle.grammar.specs.declared.Sign.the-variants.{Plus, Minus}
 use Rattle.grammar.specs.declared.Relation.{Relation}
@@ -20,8 +20,8 @@ use Rattle.grammar.specs.declared.Term.{Term}
 use Rattle.grammar.specs.declared.Term.the-variants.{Constant, Named}
 use Rattle.grammar.specs.Tree.{Sum, first, more, terms, Claim, implication, disjunction, conjunction, negation, truth, presence, comparison}
 use Rattle.grammar.specs.Views.{AtSingle, single-Not, single-LeftRound, single-True, single-Has, single-Additive, single-Number, single-FieldName, single-other, at-single, AfterSingle, after-Quote, after-Additive, after-Relational, after-And, after-Or, after-Arrow, after-RightRound, after-RightSquare, after-other, after-single}
-use Rattle.grammar.specs.ClaimMachine.{ClaimFrame, claim-frame, fresh, with-nots, with-both, with-either, with-if, with-sum, Side, left, right, ClaimState, single-wanted, single-had, name-wanted, name-had, sum-wanted, term-wanted, term-named, term-had, ClaimStep, on, closed, stuck, if-quote, if-sign, if-cmp, if-and, if-or, on-either, on-both, on-single, on-had, if-room, on-sum, on-term, want-name, want-term, want-sum, want-single, claim-step, claim-start, ClaimOut, claim-good, claim-bad, claim-follow, claim-run}
-use Rattle.rule.specs.Readers.{Lacks, LacksAll, NameEnds, plain-name, newest-name, NameFails, TermEnds, TermFails, Leads, is-minus, is-bare, SumSoFar, SumOf, SumEnds, SumFails, ComparisonEnds, ComparisonFails, SingleEnds, SingleFails, BothSoFar, BothEnds, BothFails, EitherSoFar, EitherEnds, EitherFails, ClaimEnds, ClaimFails}
+use Rattle.grammar.specs.ClaimMachine.{ClaimFrame, claim-frame, fresh, with-sum, Side, left, right, single-wanted, single-had, name-wanted, name-had, sum-wanted, term-wanted, term-named, term-had, ClaimStep, on, stuck, if-quote, if-sign, if-and, on-both, on-had, if-room, on-term, want-name, want-term, want-sum, want-single, claim-start, claim-good, claim-bad, claim-follow, claim-run}
+use Rattle.rule.specs.Readers.{Lacks, LacksAll, NameEnds, plain-name, newest-name, NameFails, TermEnds, TermFails, Leads, is-minus, is-bare, SumOf, SumEnds, SumFails, ComparisonEnds, ComparisonFails, SingleEnds, SingleFails, BothSoFar, BothEnds, BothFails, EitherSoFar, EitherEnds, EitherFails, ClaimEnds, ClaimFails}
 use Rattle.rule.proofs.Peeks.{Next}
 
 by-step : (t : Symbol) (ts : List Symbol) {m n : ClaimStep} → m ≡ n → claim-follow m t ts (λ s. claim-run s ts) ≡ claim-follow n t ts (λ s. claim-run s ts)

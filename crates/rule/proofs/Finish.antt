@@ -1,31 +1,28 @@
 -- From the stored tokens to the text's: why a text is refused, or what is held of it.
 use mathlib.Core.List.{List, [], _∷_}
 use mathlib.Core.Path.{_≡_, refl, sym, _∙_, ap, subst}
-use Prim.Native.Nat.{ℕ, _+_, _<_, _≤_, min}
+use Prim.Native.Nat.{ℕ, _<_, _≤_, min}
 use native.Mathlib.Omega.{arith}
 use lib.Dec.{leb→le}
 use lib.IntN.{ℤ, pos}
 use lib.Signed.{_≤ℤ_}
-use lib.ListN.{length, take, getD, length-take}
+use lib.ListN.{length, getD, length-take}
 use lib.Seq.{take-all, getD-take}
-use Rattle.std.proofs.shelf.Lists.{length-map, getD-default}
-use Rattle.std.specs.declared.result.Result.{Result}
+use Rattle.std.proofs.shelf.Lists.{getD-default}
 use Rattle.std.specs.declared.result.Result.the-variants.{Ok, Err}
 use Rattle.grammar.specs.declared.Refusal.{Refusal}
-use Rattle.grammar.specs.declared.Refusal.the-variants.{WatchNumber, TextTooLong, NotAToken, TooManyTokens, TooDeep, TooManyClaims, Unexpected}
+use Rattle.grammar.specs.declared.Refusal.the-variants.{WatchNumber, TextTooLong, TooManyTokens, TooDeep, TooManyClaims, Unexpected}
 use Rattle.grammar.specs.Symbol.{Symbol}
-use Rattle.grammar.specs.Tree.{Pattern}
 use Rattle.grammar.specs.Patterns.{Rule}
 use Rattle.grammar.specs.Viable.{FirstBad}
-use Rattle.grammar.specs.Cutting.{Placed, symbols, places, place-at, Cut, Uncut}
+use Rattle.grammar.specs.Cutting.{Placed, symbols, places, place-at}
 use Rattle.grammar.specs.Limits.{text-limit, token-limit, claim-limit, claiming, count, FirstDeep, Shallow, Crowding}
-use Rattle.grammar.specs.Reading.{Numbered, Within, Allowed, Refused, misnumbered, too-long, no-token, too-many, too-deep, too-crowded, unexpected}
+use Rattle.grammar.specs.Reading.{Numbered, Within, Refused, misnumbered, too-long, no-token, too-many, too-deep, too-crowded, unexpected}
 use Rattle.grammar.proofs.Unique.{one-tree, never-both, one-refusal}
 use Rattle.rule.specs.declared.rule.Rule.{Rule as Place}
 use Rattle.rule.specs.declared.tokens.Tokens.{Tokens}
-use Rattle.rule.specs.Spots.{symbol-at}
-use Rattle.rule.specs.Stored.{spots-of, symbols-of, places-of, place-in, Stores, Stops, Caused}
-use Rattle.rule.specs.Held.{rule-tree, Holds, Outcome, ReadWhenAllowed, RefusedWhenNot}
+use Rattle.rule.specs.Stored.{symbols-of, place-in, Stores, Stops, Caused}
+use Rattle.rule.specs.Held.{rule-tree, Holds, Parsed}
 
 symbols-length : (ts : List Placed) → length (symbols ts) ≡ length ts
 symbols-length [] = refl
@@ -116,14 +113,13 @@ module _ {n : ℤ} {text : List ℕ} where
               }
 
   -- what reading answers is all that it can answer
-  pub read-allowed : (u : Place) → Holds n text u → ReadWhenAllowed n text u (Ok tt)
-  read-allowed u h ts x a = (refl, one-tree text (h .placed) ts (rule-tree u) x (h .allowed .within .cut) (h .allowed .derived) (a .within .cut) (a .derived))
+  pub read-parsed : (u : Place) → Holds n text u → Parsed n text (Ok u)
+  read-parsed u h = (
+    h,
+    λ ts x a. let same = one-tree text (h .placed) ts (rule-tree u) x (h .allowed .within .cut) (h .allowed .derived) (a .within .cut) (a .derived) in
+        (refl, same .1, h .count ∙ ap length (same .0)),
+    λ e q. absurd (never-both n text (h .placed) (rule-tree u) e (h .allowed) q),
+  )
 
-  pub read-not-refused : (u : Place) → Holds n text u → RefusedWhenNot n text (Ok tt)
-  read-not-refused u h e q = absurd (never-both n text (h .placed) (rule-tree u) e (h .allowed) q)
-
-  pub refused-not-allowed : (u : Place) (e : Refusal) → Refused n text e → ReadWhenAllowed n text u (Err e)
-  refused-not-allowed u e q ts x a = absurd (never-both n text ts x e a q)
-
-  pub refused-only : (e : Refusal) → Refused n text e → RefusedWhenNot n text (Err e)
-  refused-only e q f p = ap Err (one-refusal n text e f q p)
+  pub refused-parsed : (e : Refusal) → Refused n text e → Parsed n text (Err e)
+  refused-parsed e q = (q, λ u ts x a. absurd (never-both n text ts x e a q), λ f p. ap Err (one-refusal n text e f q p))

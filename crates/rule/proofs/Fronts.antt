@@ -1,5 +1,5 @@
 -- What the cutter finds, by the first bytes after the spaces.
-use mathlib.Core.Path.{_≡_, refl, sym, ap, subst, _∙_}
+use mathlib.Core.Path.{_≡_, refl, sym, ap, _∙_}
 use mathlib.Core.Bool.{Bool, true, false, cond, _||_}
 use mathlib.Core.List.{List, [], _∷_}
 use Prim.Native.Nat.{ℕ, _+_, _-_, _≤_, _<_}
@@ -8,11 +8,11 @@ use lib.ListN.{length, getD, take, drop, length-drop}
 use lib.Seq.{getD-drop}
 use Rattle.std.specs.Text.{asciiDigit, asciiLetter}
 use Rattle.std.specs.shelf.Lists.{leading}
-use Rattle.std.proofs.shelf.Sums.{leading-le-length, leading-drop-yes}
+use Rattle.std.proofs.shelf.Sums.{leading-drop-yes}
 use Rattle.std.proofs.shelf.Ways.{tells}
 use Rattle.std.specs.declared.option.Option.{Option}
 use Rattle.grammar.specs.declared.Tag.{Tag}
-use Rattle.grammar.specs.Spelling.{wordly}
+use Rattle.grammar.specs.Spelling.{word-part}
 use Rattle.rule.specs.Scanning.{longest-mark, word, number, Scanned, over, cut, marked, front, past, scanned}
 
 when : {A : Type 0} (b : Bool) (x y : A) → b ≡ true → cond b x y ≡ x
@@ -27,7 +27,7 @@ pub front-none : (place : ℕ) (bs : List ℕ) → length bs ≡ 0 → over ≡ 
 front-none place [] h = refl
 front-none place (b ∷ bs) h = absurd (omega arith)
 
-pub front-word : (place : ℕ) (bs : List ℕ) → 0 < length bs → asciiLetter (getD bs 0 0) ≡ true → cut (word (take (leading wordly bs) bs)) place (place + leading wordly bs) ≡ front place bs
+pub front-word : (place : ℕ) (bs : List ℕ) → 0 < length bs → asciiLetter (getD bs 0 0) ≡ true → cut (word (take (leading word-part bs) bs)) place (place + leading word-part bs) ≡ front place bs
 front-word place [] h e = absurd (omega arith)
 front-word place (b ∷ bs) h e = sym (when (asciiLetter b) _ _ e)
 
@@ -53,9 +53,9 @@ module _ (text : List ℕ) (at place : ℕ) (e : place ≡ past text at) where
   pub cut-none : length text ≤ place → over ≡ scanned text at
   cut-none h = at-front over (front-none place (drop place text) (omega (arith, length-drop place text)))
 
-  pub cut-word : (end : ℕ) → place < length text → true ≡ asciiLetter (getD text place 0) → end ≡ place + leading wordly (drop place text) → cut (word (take (end - place) (drop place text))) place end ≡ scanned text at
+  pub cut-word : (end : ℕ) → place < length text → true ≡ asciiLetter (getD text place 0) → end ≡ place + leading word-part (drop place text) → cut (word (take (end - place) (drop place text))) place end ≡ scanned text at
   cut-word end h l f =
-      let n : end - place ≡ leading wordly (drop place text) = omega arith in
+      let n : end - place ≡ leading word-part (drop place text) = omega arith in
       at-front _ ((λ i. cut (word (take (n i) (drop place text))) place (f i)) ∙ front-word place (drop place text) (some h) (ap asciiLetter first ∙ sym l))
 
   pub cut-number : (end : ℕ) → place < length text → false ≡ asciiLetter (getD text place 0) → true ≡ asciiDigit (getD text place 0) → end ≡ place + leading asciiDigit (drop place text) → cut (number (take (end - place) (drop place text))) place end ≡ scanned text at
@@ -73,10 +73,10 @@ module _ (text : List ℕ) (at place : ℕ) (e : place ≡ past text at) where
       second : b ≡ getD (drop place text) 1 0
       second = s ∙ sym (getD-drop place text 1 0)
 
-pub word-long : (text : List ℕ) (place : ℕ) → place < length text → true ≡ asciiLetter (getD text place 0) → 0 < leading wordly (drop place text)
+pub word-long : (text : List ℕ) (place : ℕ) → place < length text → true ≡ asciiLetter (getD text place 0) → 0 < leading word-part (drop place text)
 word-long text place h l =
-    let is : wordly (getD text place 0) ≡ true = either (asciiLetter (getD text place 0)) (asciiDigit (getD text place 0)) (sym l) in
-    omega (arith, leading-drop-yes wordly text place 0 h is)
+    let is : word-part (getD text place 0) ≡ true = either (asciiLetter (getD text place 0)) (asciiDigit (getD text place 0)) (sym l) in
+    omega (arith, leading-drop-yes word-part text place 0 h is)
   where
     either : (a b : Bool) → a ≡ true → a || b ≡ true
     either a b e = grind (arith, tells)

@@ -25,7 +25,7 @@ use Rattle.grammar.specs.declared.Relation.the-variants.{Equal, NotEqual, Less,
 use Rattle.grammar.specs.declared.Field.the-variants.{Op, Arg, C1, C2, C3, C4, C5, C6}
 use Rattle.grammar.specs.declared.Tag.{Tag}
 use Rattle.grammar.specs.Symbol.{Symbol, LeftSquare, RightSquare, LeftRound, RightRound, Bar, Dot, Star, Underscore, Quote, Arrow, And, Or, Not, Has, True, Additive, Relational, Number, FieldName, tag}
-use Rattle.grammar.specs.Spelling.{space, wordly, Word, Digits, Spells, valued, greatest}
+use Rattle.grammar.specs.Spelling.{space, word-part, Word, Digits, Spells, valued, greatest}
 use Rattle.grammar.specs.Marks.{two-byte-mark, one-byte-mark}
 use Rattle.grammar.specs.Cutting.{Longest, Placed, placed, Cut, cut-end, cut-space, cut-token, Uncut, uncut-byte, uncut-lexeme, uncut-space, uncut-later}
 use Rattle.grammar.proofs.Lexemes.{word-longest, number-longest, word-is, digits-is, two-longest, one-longest, none-begins, true-T}
@@ -174,7 +174,7 @@ front-view : (n : ℕ) (bs : List ℕ) → leading (member Space) bs ≡ 0 → F
 front-view n [] z = at-end cut-end
 front-view n (b ∷ bs) z =
     cond-both (asciiLetter b) _ _ (Front n (b ∷ bs))
-    (λ l. at-lexeme _ (leading wordly (b ∷ bs)) (leading-le-length wordly (b ∷ bs)) (word-longest b bs l) (λ r. word-says _ _ n r (word-is b bs l)))
+    (λ l. at-lexeme _ (leading word-part (b ∷ bs)) (leading-le-length word-part (b ∷ bs)) (word-longest b bs l) (λ r. word-says _ _ n r (word-is b bs l)))
     (λ l. cond-both (asciiDigit b) _ _ (Front n (b ∷ bs))
     (λ d. at-lexeme _ (leading asciiDigit (b ∷ bs)) (leading-le-length asciiDigit (b ∷ bs)) (number-longest b bs d) (λ r. number-says _ n r (digits-is b bs d)))
     (λ d. by-marks l d (two-byte-mark b (getD bs 0 0)) (one-byte-mark b) refl refl))

@@ -1,17 +1,17 @@
 -- How the answers of the readers of rule, chain, piece and base join.
-use mathlib.Core.List.{List, [], _∷_, _++_}
-use mathlib.Core.Path.{_≡_, refl, sym, _∙_, ap, subst}
+use mathlib.Core.List.{List, [], _∷_}
+use mathlib.Core.Path.{_≡_, refl, _∙_, ap, subst}
 use mathlib.Core.Option.{Option, none, some}
-use Prim.Native.Nat.{ℕ, zero, suc, _+_, _-_, _<_, _≤_}
+use Prim.Native.Nat.{ℕ, _+_, _-_, _<_, _≤_}
 use native.Mathlib.Omega.{arith}
 use lib.ListN.{length, drop, length-drop}
-use Rattle.grammar.specs.Symbol.{Symbol, LeftSquare, RightSquare, LeftRound, RightRound, Bar, Dot, Star, Underscore}
+use Rattle.grammar.specs.Symbol.{Symbol, LeftSquare, LeftRound, RightRound, Bar, Dot, Star, Underscore}
 use Rattle.grammar.specs.Tree.{Claim, Pattern, empty, claim, alternative, sequence, star}
 use Rattle.grammar.specs.Views.{AtBase, base-Underscore, base-LeftRound, base-LeftSquare, base-other, at-base, AfterPiece, piece-Star, piece-Dot, piece-Bar, piece-RightRound, piece-other, after-piece}
 use Rattle.grammar.specs.ClaimMachine.{claim-run, claim-start, claim-good, claim-bad}
 use Rattle.grammar.specs.Patterns.{Rule}
 use Rattle.grammar.specs.Viable.{FirstBad}
-use Rattle.grammar.specs.Machine.{Frame, frame, State, want, have, inside, Next as Step, stop, go, on-want, on-have, follow, run, start, Out, good, bad}
+use Rattle.grammar.specs.Machine.{Frame, frame, want, have, Next as Step, stop, on-want, on-have, follow, run, start, good, bad}
 use Rattle.grammar.proofs.Complete.{no-star, no-dot, PieceOver, ChainOver, chain-takes, rule-takes, inside-runs, then-have}
 use Rattle.grammar.proofs.Sound.{run-rule}
 use Rattle.grammar.proofs.Fault.{first-bad}

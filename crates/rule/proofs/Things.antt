@@ -6,7 +6,7 @@ use Prim.Native.Nat.{ℕ, zero, suc, _+_, _<_, _≤_}
 use native.Mathlib.Omega.{arith}
 use lib.ListN.{length, getD, take, length-append, length-take}
 use lib.Seq.{getD-take}
-use Rattle.std.proofs.shelf.Lists.{getD-append-left, getD-past, getD-map, map-push, length-map}
+use Rattle.std.proofs.shelf.Lists.{getD-append-left, getD-past, getD-map, map-push}
 use Rattle.rule.specs.declared.node.Node.{Node}
 use Rattle.rule.specs.declared.node.Node.the-variants.{Empty, Claim, Alternative, Sequence, Star, Implication, Disjunction, Conjunction, Negation, Truth, Presence, Comparison, First, More}
 use Rattle.rule.specs.declared.summary.Summary.{Summary}
@@ -15,7 +15,7 @@ use Rattle.rule.specs.Order.{ordered, PartsBelow}
 use Rattle.rule.specs.Trees.{Thing, as-pattern, blank, made, things, thing, node-at, summaries-of, summary-at, summary-with}
 use Rattle.grammar.specs.Tree.{implication, disjunction, conjunction, negation, comparison, claim, alternative, sequence, star, more}
 use Rattle.rule.specs.Trees.{as-claim, as-sum, a-pattern, a-claim, a-sum}
-use Rattle.rule.proofs.Nodes.{parts-at, ordered-first, ordered-rest}
+use Rattle.rule.proofs.Nodes.{ordered-first, ordered-rest}
 
 things-more : (ts : List Thing) (ns ms : List Node) → things ts (ns ++ ms) ≡ things (things ts ns) ms
 things-more ts [] ms = refl

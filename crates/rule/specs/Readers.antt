@@ -3,7 +3,7 @@
 use mathlib.Core.List.{List, [], _∷_}
 use mathlib.Core.Path.{_≡_}
 use mathlib.Core.Logic.{_⊎_}
-use mathlib.Core.Option.{Option, none, some}
+use mathlib.Core.Option.{Option, none}
 use Prim.Native.Nat.{ℕ, zero, _+_, _<_, _≤_}
 use lib.ListN.{length, drop}
 use Rattle.std.specs.declared.result.Result.{Result}
@@ -12,12 +12,11 @@ use Rattle.grammar.specs.declared.Refusal.{Refusal}
 use Rattle.grammar.specs.declared.Refusal.the-variants.{Unexpected}
 use Rattle.grammar.specs.declared.Sign.{Sign}
 use Rattle.grammar.specs.declared.Sign.the-variants.{Plus, Minus}
-use Rattle.grammar.specs.declared.Relation.{Relation}
 use Rattle.grammar.specs.declared.Field.{Field}
 use Rattle.grammar.specs.declared.Name.{Name}
 use Rattle.grammar.specs.declared.Name.the-variants.{Plain, Newest}
 use Rattle.grammar.specs.declared.Term.{Term}
-use Rattle.grammar.specs.Symbol.{Symbol, Bar, Dot, Star, Quote, Arrow, And, Or, Additive, Relational, Number, FieldName}
+use Rattle.grammar.specs.Symbol.{Symbol, Bar, Dot, Star, Quote, Arrow, And, Or, Additive, FieldName}
 use Rattle.grammar.specs.Tree.{Sum, terms, Claim, Pattern}
 use Rattle.grammar.specs.Patterns.{Rule}
 use Rattle.grammar.specs.Viable.{FirstBad}

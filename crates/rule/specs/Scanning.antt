@@ -14,17 +14,17 @@ use Rattle.grammar.specs.declared.Refusal.{Refusal}
 use Rattle.grammar.specs.declared.Refusal.the-variants.{NotAToken}
 use Rattle.grammar.specs.declared.Tag.{Tag}
 use Rattle.grammar.specs.Symbol.{Symbol, tag}
-use Rattle.grammar.specs.Spelling.{space, wordly}
+use Rattle.grammar.specs.Spelling.{space, word-part}
 use Rattle.grammar.specs.Marks.{two-byte-mark, one-byte-mark}
 use Rattle.rule.specs.declared.cutter.Class.{Class}
-use Rattle.rule.specs.declared.cutter.Class.the-variants.{Space, Digit, Wordly}
+use Rattle.rule.specs.declared.cutter.Class.the-variants.{Space, Digit, WordPart}
 use Rattle.rule.specs.declared.cutter.Token.{Token}
 use Rattle.rule.specs.declared.cutter.Token.the-variants.{Word, Number, Mark}
 
 abbrev pub member : Class → ℕ → Bool
 member Space b = eqb b space
 member Digit b = asciiDigit b
-member Wordly b = wordly b
+member WordPart b = word-part b
 
 abbrev pub tagged : Option Symbol → Option Tag
 tagged None = None
@@ -67,7 +67,7 @@ marked place (Some x) = cut (mark (x .0)) place (place + x .1)
 abbrev pub front : ℕ → List ℕ → Scanned
 front place [] = over
 front place (b ∷ bs) =
-    cond (asciiLetter b) (cut (word (take (leading wordly (b ∷ bs)) (b ∷ bs))) place (place + leading wordly (b ∷ bs)))
+    cond (asciiLetter b) (cut (word (take (leading word-part (b ∷ bs)) (b ∷ bs))) place (place + leading word-part (b ∷ bs)))
     (cond (asciiDigit b) (cut (number (take (leading asciiDigit (b ∷ bs)) (b ∷ bs))) place (place + leading asciiDigit (b ∷ bs)))
     (marked place (longest-mark b (getD bs 0 0))))
 

@@ -1,5 +1,5 @@
 -- What matching asks of a pattern at each row.
-use mathlib.Core.Bool.{Bool, true, false, cond, _&&_, _||_}
+use mathlib.Core.Bool.{true, false, cond, _&&_, _||_}
 use Prim.Native.Nat.{ℕ, _+_, _*_, _%_, _^_, min}
 use lib.Dec.{ltb}
 use lib.Bits.{bitOr}

@@ -30,7 +30,7 @@ pub record Spelled (w : List ℕ) (k : Tag) : Type 0 where
   pub spells : Spells symbol w
   pub tags : k ≡ tag symbol
 
--- a word that spells none
+-- if these bytes are a word, it spells none
 abbrev pub Unknown : List ℕ → Type 0
 Unknown w = (s : Symbol) → Spells s w → Word w → ⊥
 

@@ -1,6 +1,6 @@
 // Cuts a text into tokens that borrow it, the longest first.
 ghost use mathlib.Core.Path.{_≡_};
-ghost use Prim.Native.Nat.{ℕ, _+_, _≤_, _<_};
+ghost use Prim.Native.Nat.{_+_, _≤_, _<_};
 ghost use lib.ListN.{length, getD, drop};
 ghost use Rattle.std.specs.Options.{Cases as BySome};
 ghost use Rattle.std.specs.shelf.Lists.{leading};
@@ -16,7 +16,7 @@ use grammar::Tag;
 pub(crate) enum Class {
     Space,
     Digit,
-    Wordly,
+    WordPart,
 }
 
 // A token as a part of the text.
@@ -40,7 +40,7 @@ fn belongs(class: Class, b: u8) -> bool
     match class {
         Class::Space => b == b' ',
         Class::Digit => b.is_ascii_digit(),
-        Class::Wordly => b.is_ascii_alphabetic() || b.is_ascii_digit(),
+        Class::WordPart => b.is_ascii_alphabetic() || b.is_ascii_digit(),
     }
 }
 
@@ -137,7 +137,7 @@ impl<'a> Cutter<'a> {
         }
         let first = text[place];
         if first.is_ascii_alphabetic() {
-            let end = run_end(text, place, Class::Wordly);
+            let end = run_end(text, place, Class::WordPart);
             self.at = end;
             return Ok(Some((Token::Word(&text[place..end]), place)));
         }

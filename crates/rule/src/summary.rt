@@ -2,8 +2,8 @@
 ghost use mathlib.Core.Path.{_≡_};
 ghost use Rattle.rule.specs.Summaries.{of-empty, of-claim, of-alternative, of-sequence, of-star, after};
 
-// `nullable`: it fits no rows. `claims`: how many claims it has. `last`: its claims that can take the last of the rows it fits,
-// bit k for the claim k, counted from 0 from left to right.
+// `nullable`: it fits the empty list of rows. `claims`: how many claims it has. `last`: those of its claims that can be the last to
+// take a row when it fits, bit k for the claim k, counted from 0 from left to right.
 #[derive(Clone, Copy)]
 pub struct Summary {
     pub nullable: bool,

@@ -30,9 +30,9 @@ const OPENING: [&str; 9] = [
 
 const CLOSING: [&str; 4] = [
     "What is proved of this: a text is read exactly when grammar and limits allow it, as its only",
-    "tree; otherwise the refusal's number and place are exact, and the place is left unchanged.",
-    "What writes `tree` is proved to write that very tree. The same library reads the rules for",
-    "the watches to come.",
+    "tree; otherwise the refusal's number and place are exact, and the rule held stays the same.",
+    "What is written after `tree` is proved to be the canonical text of the tree that is held. The",
+    "same library reads the rules for the watches to come.",
 ];
 
 fn print_lines(rt: &impl Print, lines: &[&str]) -> io::Result<()> {

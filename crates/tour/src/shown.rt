@@ -4,7 +4,7 @@ use std::fmt;
 
 // So many things, as `1 claim` or `2 claims`.
 #[derive(Clone, Copy)]
-pub struct Count {
+pub(crate) struct Count {
     pub number: u16,
     pub thing: &'static str,
 }
@@ -21,7 +21,7 @@ pub impl fmt::Display for Count as CountDisplay {
 
 // Why a text is refused, in plain words.
 #[derive(Clone, Copy)]
-pub struct Cause<'a> {
+pub(crate) struct Cause<'a> {
     pub refusal: &'a Refusal,
 }
 
@@ -34,7 +34,7 @@ pub impl fmt::Display for Cause<'_> as CauseDisplay {
                 Refusal::NotAToken(_) => "no token, or a number over 1,000,000,000",
                 Refusal::TooManyTokens(_) => "the 501st token",
                 Refusal::TooDeep(_) => "more than 16 round brackets open",
-                Refusal::TooManyClaims(_) => "the 61st claim",
+                Refusal::TooManyClaims(_) => "the 61st `[`",
                 Refusal::Unexpected(_) => "no rule goes on like this",
             },
         )
@@ -43,7 +43,7 @@ pub impl fmt::Display for Cause<'_> as CauseDisplay {
 
 // A caret that stands under a place of a text, with so many bytes before it.
 #[derive(Clone, Copy)]
-pub struct Caret {
+pub(crate) struct Caret {
     pub place: usize,
 }
 

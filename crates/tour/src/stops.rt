@@ -1,7 +1,7 @@
 // The texts that the tour shows.
 
 // A text that is read for a watch, and what it shows.
-pub struct Stop {
+pub(crate) struct Stop {
     pub heading: &'static str,
     pub watch: i32,
     pub text: &'static str,
@@ -34,7 +34,7 @@ const STOPS: [Stop; 11] = [
         text: "[c1]",
     },
     Stop {
-        heading: "There are six columns, so `c7` is no word.",
+        heading: "There are six columns, so `c7` is an unknown word.",
         watch: 5,
         text: "[c7 = 1]",
     },
@@ -65,6 +65,6 @@ const STOPS: [Stop; 11] = [
     },
 ];
 
-pub fn stops() -> &'static [Stop] {
+pub(crate) fn stops() -> &'static [Stop] {
     &STOPS
 }

@@ -1,5 +1,5 @@
-use Rattle.examples.proofs.Texts.{empty-text, no-comparison, unknown-word}
+use Rattle.examples.proofs.Texts.{always-true, empty-text, no-comparison, unknown-word}
 use Rattle.examples.proofs.examples_hold.Needs as need
 
 pub returns : need.returns
-returns c = record { empty-text = empty-text; no-comparison = no-comparison; unknown-word = unknown-word }
+returns c = record { always-true = always-true; empty-text = empty-text; no-comparison = no-comparison; unknown-word = unknown-word }

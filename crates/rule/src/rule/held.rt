@@ -1,10 +1,9 @@
 // What the place for a rule holds.
 ghost use mathlib.Core.Path.{_≡_};
 ghost use Prim.Native.Nat.{_≤_, _<_};
-ghost use lib.ListN.{length};
 ghost use Rattle.grammar.specs.Tree.{claims-in};
 ghost use Rattle.rule.specs.Order.{PartsBelow};
-ghost use Rattle.rule.specs.Held.{watch-of, tokens-of, rule-tree, root-of, thing-of, meaning, summary-of};
+ghost use Rattle.rule.specs.Held.{watch-of, tokens-of, rule-tree, root-of, size-of, node-of, thing-of, meaning, summary-of};
 use crate::node::Node;
 use crate::rule::Rule;
 use crate::summary::Summary;
@@ -21,7 +20,8 @@ impl Rule {
 
     // How many tokens its text had.
     pub fn tokens(&self) -> u16
-        ensures { λ r. ⌜ r ≡ tokens-of (now (self .entry)) ⌝ }
+        ensures value { λ r. ⌜ r ≡ tokens-of (now (self .entry)) ⌝ }
+        ensures bound { λ r. ⌜ r ≤ 500 ⌝ }
     {
         self.tokens
     }
@@ -36,20 +36,22 @@ impl Rule {
 
     // The node of the whole tree.
     pub fn root(&self) -> u16
-        ensures { λ r. ⌜ r ≡ root-of (now (self .entry)) ⌝ }
+        ensures value { λ r. ⌜ r ≡ root-of (now (self .entry)) ⌝ }
+        ensures within { λ r. ⌜ r < size-of (now (self .entry)) ⌝ }
     {
         self.root
     }
 
     // The node n; an empty pattern where there is none. Its parts have lower numbers.
     pub fn node(&self, n: u16) -> Node
-        ensures value { λ r. ⌜ thing-of (now (self .entry)) n ≡ meaning (now (self .entry)) r ⌝ }
+        ensures value { λ r. ⌜ r ≡ node-of (now (self .entry)) n ⌝ }
+        ensures meaning { λ r. ⌜ thing-of (now (self .entry)) n ≡ meaning (now (self .entry)) r ⌝ }
         ensures below { λ r. ⌜ PartsBelow n r ⌝ }
     {
         self.tree.node(n)
     }
 
-    // The summary of the pattern at the node n.
+    // The summary of the pattern at the node n; that of an empty pattern where no pattern is.
     pub fn summary(&self, n: u16) -> Summary
         ensures { λ r. ⌜ r ≡ summary-of (now (self .entry)) n ⌝ }
     {

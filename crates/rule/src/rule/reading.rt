@@ -85,12 +85,7 @@ impl Rule {
         ensures allowed { λ r. ⌜ ReadWhenAllowed watch (now (text .entry)) (now (self .exit)) r ⌝ }
         ensures refused { λ r. ⌜ RefusedWhenNot watch (now (text .entry)) r ⌝ }
     {
-        match Rule::parsed(watch, text) {
-            Ok(rule) => {
-                *self = rule;
-                Ok(())
-            }
-            Err(refusal) => Err(refusal),
-        }
+        *self = Rule::parsed(watch, text)?;
+        Ok(())
     }
 }

@@ -9,14 +9,14 @@ pattern-returns-in-Continue-claim g t c = λ plain ok.
     let x = c .in-Continue-write-str .ensures tt .prints plain refl in
     let y = c .in-Continue-claim .ensures tt (x .plain) refl in
     let z = c .write-str-in-Claim .ensures .prints (y .plain) ok in
-    let e = sym (ap (λ u. pattern-text (as-pattern u)) (c .in-Claim .ensures tt .value)) in
+    let e = sym (ap (λ u. pattern-text (as-pattern u)) (c .in-Claim .ensures tt .meaning)) in
     known e (next x (next y z))
 
 pub pattern-returns-in-Continue-pattern : need.pattern-returns-in-Continue-pattern
 pattern-returns-in-Continue-pattern g t c = λ plain ok.
     let x = c .in-Continue-pattern .ensures tt plain refl in
     let y = c .write-str-in-Star .ensures .prints (x .plain) ok in
-    let e = sym (ap (λ u. pattern-text (as-pattern u)) (c .in-Star .ensures tt .value)) in
+    let e = sym (ap (λ u. pattern-text (as-pattern u)) (c .in-Star .ensures tt .meaning)) in
     known e (next x y)
 
 pub two-patterns-returns : need.two-patterns-returns

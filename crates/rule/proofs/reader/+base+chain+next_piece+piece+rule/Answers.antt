@@ -1,7 +1,7 @@
-use mathlib.Core.Path.{refl, sym, ap, _∙_}
+use mathlib.Core.Path.{refl}
 use native.Mathlib.Omega.{arith}
 use mathlib.Core.List.{[]}
-use Prim.Native.Nat.{ℕ, _+_, _<_, _^_}
+use Prim.Native.Nat.{_+_, _<_, _^_}
 use borrow.Author.Needs.{needs}
 use Rattle.std.proofs.shelf.Results.{err-from-errBy}
 use Rattle.rule.specs.Trees.{as-pattern, as-claim}
@@ -15,7 +15,7 @@ use Rattle.rule.proofs.Faults.{faulted, faulted-at}
 use Rattle.rule.proofs.Peeks.{here, lacks}
 use Rattle.rule.proofs.Rooms.{ready-to, ready-next, room-to}
 use Rattle.rule.proofs.ClaimSteps.{claim-closed, claim-cut}
-use Rattle.rule.proofs.Steps.{base-blank, base-stops, base-round, base-unclosed, base-inner, base-square, base-unsquare, piece-more, chain-first, chain-more, chain-fails, chain-none, rule-first, rule-more, rule-fails, rule-none}
+use Rattle.rule.proofs.Steps.{base-blank, base-stops, base-round, base-unclosed, base-inner, base-square, base-unsquare, piece-more, chain-first, chain-more, chain-fails, rule-first, rule-more, rule-fails}
 use Rattle.rule.proofs.reader.+base+chain+next_piece+piece+rule.Needs as need
 
 pub chain-add-left : need.chain-add-left

@@ -1,4 +1,4 @@
-use mathlib.Core.Path.{refl, sym, ap, _∙_}
+use mathlib.Core.Path.{refl}
 use native.Mathlib.Omega.{arith}
 use Prim.Native.Nat.{ℕ, _+_, _<_, _^_}
 use lib.ListN.{drop}
@@ -14,13 +14,13 @@ use Rattle.rule.specs.Trees.{as-claim}
 use Rattle.rule.specs.Built.{nodes-of}
 use Rattle.rule.specs.Stored.{symbols-of}
 use Rattle.rule.specs.Readers.{Lacks, ComparisonRead, SingleRead, SingleEnds, BothSoFar, BothEnds, EitherSoFar, EitherEnds, ClaimEnds}
-use Rattle.grammar.specs.Tree.{implication, disjunction as either-claim, conjunction as both-claim, negation, truth, presence}
+use Rattle.grammar.specs.Tree.{implication, disjunction as either-claim, conjunction as both-claim, negation, truth}
 use Rattle.grammar.specs.Symbol.{And, Or, Arrow, Not, LeftRound, RightRound, Has, True}
 use Rattle.rule.proofs.Grown.{leaf, wrap, join, same, later}
 use Rattle.rule.proofs.Faults.{faulted, faulted-at}
 use Rattle.rule.proofs.Peeks.{here, lacks}
 use Rattle.rule.proofs.Rooms.{inside-to, ready-to, ready-next, room-to}
-use Rattle.rule.proofs.ClaimSteps.{name-on, single-true, single-not, single-not-fails, single-has, single-has-fails, single-compare, single-compare-fails, single-round, single-unclosed, single-inner, both-first, both-none, both-more, both-fails, either-first, either-none, either-more, either-fails, claim-one, claim-two, claim-none, claim-second}
+use Rattle.rule.proofs.ClaimSteps.{name-on, single-true, single-not, single-not-fails, single-has, single-has-fails, single-compare, single-compare-fails, single-round, single-unclosed, single-inner, both-first, both-more, both-fails, either-first, either-more, either-fails, claim-one, claim-two, claim-second}
 use Rattle.rule.proofs.reader.+both+claim+either+single.Needs as need
 
 pub both-add-left : need.both-add-left

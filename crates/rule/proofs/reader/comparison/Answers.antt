@@ -1,8 +1,7 @@
-use mathlib.Core.Path.{refl, sym, ap, _∙_}
+use mathlib.Core.Path.{refl}
 use native.Mathlib.Omega.{arith}
 use Rattle.std.proofs.shelf.Results.{err-from-errBy}
 use Rattle.rule.specs.Trees.{as-sum, as-claim}
-use Rattle.rule.specs.Built.{nodes-of}
 use Rattle.rule.specs.Stored.{symbols-of}
 use Rattle.rule.specs.Readers.{ComparisonEnds}
 use Rattle.grammar.specs.Symbol.{Relational}

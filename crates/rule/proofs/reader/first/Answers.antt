@@ -1,12 +1,10 @@
-use mathlib.Core.Path.{refl, sym, ap, _∙_}
+use mathlib.Core.Path.{refl}
 use native.Mathlib.Omega.{arith}
 use Rattle.std.proofs.shelf.Results.{err-from-errBy}
-use Rattle.rule.specs.declared.node.Node.the-variants.{First}
 use Rattle.rule.specs.Trees.{as-sum}
 use Rattle.rule.specs.Built.{nodes-of}
 use Rattle.rule.specs.Stored.{symbols-of}
 use Rattle.rule.specs.Readers.{SumOf}
-use Rattle.grammar.specs.Tree.{first as first-sum}
 use Rattle.rule.proofs.Grown.{leaf}
 use Rattle.rule.proofs.Faults.{faulted}
 use Rattle.rule.proofs.Rooms.{inside-to, room-to}

@@ -2,7 +2,7 @@ use mathlib.Core.Path.{_≡_, sym, ap, _∙_}
 use Prim.Native.Nat.{ℕ}
 use native.Mathlib.Omega.{arith}
 use Rattle.grammar.specs.Symbol.{Additive, tag}
-use Rattle.grammar.specs.declared.Sign.the-variants.{Plus, Minus}
+use Rattle.grammar.specs.declared.Sign.the-variants.{Minus}
 use Rattle.rule.specs.Stored.{symbols-of}
 use Rattle.rule.specs.Readers.{is-minus, is-bare}
 use Rattle.rule.proofs.Peeks.{here, lacks}

@@ -1,4 +1,4 @@
-use mathlib.Core.Path.{refl, sym, _∙_}
+use mathlib.Core.Path.{refl}
 use Prim.Native.Nat.{_+_}
 use Rattle.rule.specs.Stored.{symbols-of}
 use Rattle.rule.proofs.Faults.{faulted-at}

@@ -1,11 +1,10 @@
-use mathlib.Core.Path.{refl, sym, ap, _∙_}
+use mathlib.Core.Path.{refl}
 use native.Mathlib.Omega.{arith}
 use Prim.Native.Nat.{_+_, _<_, _^_}
 use borrow.Author.Needs.{needs}
 use Rattle.grammar.specs.Tree.{more}
 use Rattle.std.proofs.shelf.Results.{err-from-errBy}
 use Rattle.rule.specs.Trees.{as-sum}
-use Rattle.rule.specs.Built.{nodes-of}
 use Rattle.rule.specs.Stored.{symbols-of}
 use Rattle.rule.specs.Readers.{SumOf, SumEnds}
 use Rattle.grammar.specs.Symbol.{Additive}

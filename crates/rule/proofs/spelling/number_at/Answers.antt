@@ -1,6 +1,6 @@
-use mathlib.Core.Path.{_≡_, sym, ap}
+use mathlib.Core.Path.{sym, ap}
 use native.Mathlib.Omega.{arith}
-use lib.ListN.{drop, take, drop-of-length-le}
+use lib.ListN.{take, drop-of-length-le}
 use Rattle.std.specs.Text.{asciiDigit}
 use Rattle.std.specs.shelf.Lists.{leading}
 use Rattle.grammar.specs.Spelling.{valued}

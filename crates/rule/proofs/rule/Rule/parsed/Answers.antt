@@ -1,4 +1,4 @@
-use mathlib.Core.Path.{_≡_, refl, sym, ap, subst, _∙_}
+use mathlib.Core.Path.{_≡_, sym, subst, _∙_}
 use Prim.Native.Nat.{_≤_}
 use native.Mathlib.Omega.{arith}
 use borrow.Author.Needs.{needs}
@@ -11,7 +11,7 @@ use Rattle.grammar.specs.Reading.{Numbered}
 use Rattle.grammar.proofs.Counts.{rule-claims}
 use Rattle.rule.specs.Spots.{symbol-at}
 use Rattle.rule.specs.Stored.{spots-of, symbols-of, Stores, Stops}
-use Rattle.rule.proofs.Finish.{watch-refused, long-refused, cut-refused, many-refused, deep-refused, crowd-refused, bad-refused, numbered-within, held, read-allowed, read-not-refused, refused-not-allowed, refused-only}
+use Rattle.rule.proofs.Finish.{watch-refused, long-refused, cut-refused, many-refused, deep-refused, crowd-refused, bad-refused, numbered-within, held, read-parsed, refused-parsed}
 use Rattle.rule.proofs.rule.Rule.parsed.Needs as need
 
 pub returns-in-Break-watch : need.returns-in-Break-watch
@@ -19,7 +19,7 @@ returns-in-Break-watch c =
     let p = err-from-errBy (c .from-residual .result) (c .from-residual .ensures .1) in
     let z : toZ w32 (ofZ w32 (c .args .watch)) ≡ c .args .watch = search needs in
     let q = let r = c .in-Break-watch .ensures tt in watch-refused {n = c .args .watch} {text = c .args .text .now} (r .0) (λ w. r .1 (subst Numbered (sym z) w)) in
-    rw (p .1, p .2) (q, λ u. refused-not-allowed u _ q, refused-only _ q)
+    rw (p .1, p .2) (refused-parsed _ q)
 
 pub returns-in-Break-short : need.returns-in-Break-short
 returns-in-Break-short c =
@@ -27,7 +27,7 @@ returns-in-Break-short c =
     let z : toZ w32 (ofZ w32 (c .args .watch)) ≡ c .args .watch = search needs in
     let w = subst Numbered z (c .in-Continue-watch .ensures tt .1) in
     let q = let r = c .in-Break-short .ensures tt in long-refused w (r .0) (r .1) in
-    rw (p .1, p .2) (q, λ u. refused-not-allowed u _ q, refused-only _ q)
+    rw (p .1, p .2) (refused-parsed _ q)
 
 pub returns-in-Break-cut : need.returns-in-Break-cut
 returns-in-Break-cut c =
@@ -36,7 +36,7 @@ returns-in-Break-cut c =
     let w = subst Numbered z (c .in-Continue-watch .ensures tt .1) in
     let l = c .in-Continue-short .ensures tt in
     let q = cut-refused w l (subst (λ b. Stops b (c .in-Break-cut .field-0 .0)) (c .new-tokens .ensures .text) (c .in-Break-cut .ensures tt)) in
-    rw (p .1, p .2) (q, λ u. refused-not-allowed u _ q, refused-only _ q)
+    rw (p .1, p .2) (refused-parsed _ q)
 
 pub returns-in-Break-few : need.returns-in-Break-few
 returns-in-Break-few c =
@@ -46,7 +46,7 @@ returns-in-Break-few c =
     let l = c .in-Continue-short .ensures tt in
     let s = subst (λ b. Stores b (c .cut .last .self)) (c .new-tokens .ensures .text) (c .in-Continue-cut .ensures tt) in
     let q = let r = c .in-Break-few .ensures tt in many-refused w l s (r .0) (r .1) in
-    rw (p .1, p .2) (q, λ u. refused-not-allowed u _ q, refused-only _ q)
+    rw (p .1, p .2) (refused-parsed _ q)
 
 pub returns-in-Break-shallow : need.returns-in-Break-shallow
 returns-in-Break-shallow c =
@@ -57,7 +57,7 @@ returns-in-Break-shallow c =
     let s = subst (λ b. Stores b (c .cut .last .self)) (c .new-tokens .ensures .text) (c .in-Continue-cut .ensures tt) in
     let f = c .in-Continue-few .ensures tt in
     let q = deep-refused w l s f (c .in-Break-shallow .ensures tt) in
-    rw (p .1, p .2) (q, λ u. refused-not-allowed u _ q, refused-only _ q)
+    rw (p .1, p .2) (refused-parsed _ q)
 
 pub returns-in-Break-claims : need.returns-in-Break-claims
 returns-in-Break-claims c =
@@ -69,7 +69,7 @@ returns-in-Break-claims c =
     let f = c .in-Continue-few .ensures tt in
     let d = c .in-Continue-shallow .ensures tt in
     let q = crowd-refused w l s f d (c .in-Break-claims .ensures tt) in
-    rw (p .1, p .2) (q, λ u. refused-not-allowed u _ q, refused-only _ q)
+    rw (p .1, p .2) (refused-parsed _ q)
 
 pub returns-in-Break-root : need.returns-in-Break-root
 returns-in-Break-root c =
@@ -83,7 +83,7 @@ returns-in-Break-root c =
     let k = c .in-Continue-claims .ensures tt in
     let m : count claiming (symbols-of (c .cut .last .self)) ≤ claim-limit = omega (arith, k) in
     let q = bad-refused w l s f d m (c .in-Break-root .ensures tt) in
-    rw (p .1, p .2) (q, λ u. refused-not-allowed u _ q, refused-only _ q)
+    rw (p .1, p .2) (refused-parsed _ q)
 
 pub ghost-result : need.ghost-result
 ghost-result c =
@@ -111,5 +111,4 @@ returns c =
     let t = c .cut .last .self in
     let long = length-map (spots-of t) (symbol-at (t .text .now)) in
     let m : count claiming (symbols-of t) ≤ claim-limit = omega (arith, k) in
-    let h = held w l s f d m _ (c .in-Continue-root .ensures tt .derived) e (c .len .ensures ∙ sym long) in
-    (h, read-allowed _ h, read-not-refused _ h)
+    read-parsed _ (held w l s f d m _ (c .in-Continue-root .ensures tt .derived) e (c .len .ensures ∙ sym long))

@@ -1,6 +1,6 @@
-use mathlib.Core.Path.{_≡_, sym, ap, _∙_}
+use mathlib.Core.Path.{sym, ap, _∙_}
 use native.Mathlib.Omega.{arith}
-use lib.ListN.{length, take, getD}
+use lib.ListN.{length}
 use lib.Seq.{length-take-le, getD-take}
 use Rattle.rule.specs.Stored.{spots-of}
 use Rattle.rule.proofs.Spotted.{unread, place-here, place-past}

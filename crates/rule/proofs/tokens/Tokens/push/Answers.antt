@@ -1,9 +1,9 @@
-use mathlib.Core.Path.{_≡_, refl, sym, ap, subst, _∙_}
+use mathlib.Core.Path.{_≡_, refl, sym, subst, _∙_}
 use mathlib.Core.Bool.{true}
 use mathlib.Core.List.{[], _∷_, _++_}
 use native.Mathlib.Omega.{arith}
-use Prim.Native.Nat.{_+_, _<_, _≤_}
-use lib.ListN.{length, take, set, length-set, length-append}
+use Prim.Native.Nat.{_+_}
+use lib.ListN.{length-set, length-append}
 use lib.Seq.{length-take-le, take-append-le, take-all}
 use Rattle.std.proofs.shelf.Lists.{take-more-set}
 use Rattle.rule.specs.Spots.{spot, all-real}
