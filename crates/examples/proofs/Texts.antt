@@ -26,7 +26,7 @@ count-front f (suc k) [] = omega arith
 count-front f (suc k) (t ∷ ts) = omega (arith, count-front f k ts)
 
 -- with no `(` none is too deep
-no-round : (ts : List Symbol) → count opening ts ≡ 0 → Shallow ts
+pub no-round : (ts : List Symbol) → count opening ts ≡ 0 → Shallow ts
 no-round ts e k d = omega (arith, d .over, count-front opening (k + 1) ts)
 
 empty-within : Within (codes "") []

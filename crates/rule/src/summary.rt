@@ -11,14 +11,14 @@ pub struct Summary {
     pub last: u64,
 }
 
-// A set of claims that are counted after n others.
-fn moved(last: u64, n: u8) -> u64
-    ensures { λ r. ⌜ r ≡ after n last ⌝ }
-{
-    if n < 64 { last << n } else { 0 }
-}
-
 impl Summary {
+    // The claims that can be the last to take a row, counted after so many others.
+    pub fn last_after(self, others: u8) -> u64
+        ensures { λ r. ⌜ r ≡ after others (self .last) ⌝ }
+    {
+        if others < 64 { self.last << others } else { 0 }
+    }
+
     pub(crate) fn of_empty() -> Summary
         ensures { λ r. ⌜ r ≡ of-empty ⌝ }
     {
@@ -45,14 +45,14 @@ impl Summary {
         Summary {
             nullable: self.nullable || other.nullable,
             claims: self.claims.saturating_add(other.claims),
-            last: self.last | moved(other.last, self.claims),
+            last: self.last | other.last_after(self.claims),
         }
     }
 
     pub(crate) fn sequence(self, other: Summary) -> Summary
         ensures { λ r. ⌜ r ≡ of-sequence self other ⌝ }
     {
-        let last = moved(other.last, self.claims);
+        let last = other.last_after(self.claims);
         Summary {
             nullable: self.nullable && other.nullable,
             claims: self.claims.saturating_add(other.claims),

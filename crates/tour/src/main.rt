@@ -1,10 +1,12 @@
 // A tour for newcomers: rule texts are read into one place for a rule, or refused.
+mod months;
 mod shown;
 mod stops;
 
 use canonical::Canonical;
 use canonical::CanonicalDisplay;
 use grammar::Refusal;
+use months::print_trials;
 use rule::Rule;
 use shown::Caret;
 use shown::CaretDisplay;
@@ -28,11 +30,20 @@ const OPENING: [&str; 9] = [
     "text goes wrong; a place is the count of the bytes before it.",
 ];
 
-const CLOSING: [&str; 4] = [
+const TRIALS: [&str; 4] = [
+    "Now rows are held against a rule. The table below has the first days of five months; month 3",
+    "is given 29 days and should have 30. Row by row, the rule is tried on all rows so far, newest",
+    "first. Rows pass when some beginning of them fits the rule, so this rule of one claim looks at",
+    "the newest row alone.",
+];
+
+const CLOSING: [&str; 6] = [
     "What is proved of this: a text is read exactly when grammar and limits allow it, as its only",
     "tree; otherwise the refusal's number and place are exact, and the rule held stays the same.",
     "What is written after `tree` is proved to be the canonical text of the tree that is held. The",
-    "same library reads the rules for the watches to come.",
+    "same library reads the rules for the watches to come. Rows are said to pass exactly when they",
+    "do by the definition: some beginning of the rows, newest first, fits the tree of the rule, and",
+    "that for every rule and all rows.",
 ];
 
 fn print_lines(rt: &impl Print, lines: &[&str]) -> io::Result<()> {
@@ -114,5 +125,8 @@ fn main(rt: LibcRuntime) -> io::Result<()> {
         visit(&rt, &mut place, stop)?;
     }
     print_last(&rt, &place)?;
+    print_lines(&rt, &TRIALS)?;
+    print_trials(&rt)?;
+    println!(rt, "")?;
     print_lines(&rt, &CLOSING)
 }

@@ -1,4 +1,5 @@
 // How counts, refusals and places are shown.
+use engine::Value;
 use grammar::Refusal;
 use std::fmt;
 
@@ -51,5 +52,20 @@ pub impl fmt::Display for Caret as CaretDisplay {
     fn fmt<W: fmt::Write>(&self, f: &mut fmt::Formatter<W>) -> fmt::Result {
         f.write_repeated(" ", self.place)?;
         f.write_str("^")
+    }
+}
+
+// A value of a row, or `-` where it is missing.
+#[derive(Clone, Copy)]
+pub(crate) struct Cell {
+    pub value: Value,
+}
+
+pub impl fmt::Display for Cell as CellDisplay {
+    fn fmt<W: fmt::Write>(&self, f: &mut fmt::Formatter<W>) -> fmt::Result {
+        match self.value {
+            Value::Missing => f.write_str("-"),
+            Value::Number(number) => write!(f, "{number}"),
+        }
     }
 }

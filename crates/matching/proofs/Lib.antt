@@ -1,0 +1,4 @@
+pub mod Bitwise
+pub mod Summed
+pub mod Shifts
+pub mod Trials

@@ -1,0 +1,5 @@
+// Rows against a rule.
+mod truth;
+mod walk;
+
+pub use walk::passes;
