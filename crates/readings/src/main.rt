@@ -4,8 +4,8 @@ mod input;
 
 use canonical::Canonical;
 use canonical::CanonicalDisplay;
+use fields::first_line;
 use input::Case;
-use input::first_line;
 use rule::Rule;
 use std::io;
 use std::io::Read;
@@ -23,8 +23,7 @@ fn main(rt: LibcRuntime) -> io::Result<()> {
 fn answer_all(rt: &impl Print, lines: &[u8]) -> io::Result<()> {
     let mut rule = Rule::new();
     let mut rest = lines;
-    while !rest.is_empty() {
-        let (line, after) = first_line(rest);
+    while let Some((line, after)) = first_line(rest) {
         match Case::of(line) {
             Some(case) => answer(rt, &mut rule, case)?,
             None => println!(rt, "bad line")?,

@@ -1,11 +1,11 @@
 // The cases that the lines of the input hold.
-ghost use mathlib.Core.Path.{_≡_};
-ghost use Prim.Native.Nat.{ℕ, _<_, _≤_};
-ghost use lib.ListN.{length, getD};
+ghost use Prim.Native.Nat.{_<_};
+ghost use lib.ListN.{length};
 use engine::Op;
 use engine::Row;
 use engine::Value;
 use engine::Values;
+use fields::find;
 use std::alloc::AllocError;
 use std::str;
 
@@ -114,31 +114,4 @@ fn next_part(bytes: &[u8], wanted: u8) -> (&[u8], &[u8])
 {
     let body = &bytes[1..];
     body.split_at(find(body, wanted))
-}
-
-// The first line without its end, and what follows it.
-pub(crate) fn first_line(bytes: &[u8]) -> (&[u8], &[u8])
-    requires { ⌜ 0 < length (now bytes) ⌝ }
-    ensures { λ r. ⌜ length (now (r .1)) < length (now (bytes .entry)) ⌝ }
-{
-    let end = find(bytes, b'\n');
-    let (line, rest) = bytes.split_at(end);
-    if rest.is_empty() {
-        return (line, rest);
-    }
-    (line, &rest[1..])
-}
-
-// The index of the first byte that is wanted, or the length where there is none.
-fn find(bytes: &[u8], wanted: u8) -> usize
-    ensures within { λ r. ⌜ r ≤ length (now (bytes .entry)) ⌝ }
-    ensures before { λ r. ⌜ ((k : ℕ) → k < r → getD (now (bytes .entry)) k 0 ≡ wanted → ⊥) ⌝ }
-    ensures found { λ r. ⌜ (r < length (now (bytes .entry)) → getD (now (bytes .entry)) r 0 ≡ wanted) ⌝ }
-{
-    for (i, byte) in bytes.iter().enumerate() {
-        if *byte == wanted {
-            return i;
-        }
-    }
-    bytes.len()
 }

@@ -4,8 +4,8 @@
 mod input;
 
 use engine::Row;
+use fields::first_line;
 use input::Case;
-use input::first_line;
 use matching::passes;
 use rule::Rule;
 use std::alloc::AllocError;
@@ -26,8 +26,7 @@ fn main(rt: LibcRuntime) -> io::Result<()> {
 fn answer_all(rt: &LibcRuntime, lines: &[u8]) -> io::Result<()> {
     let mut rule = Rule::new();
     let mut rest = lines;
-    while !rest.is_empty() {
-        let (line, after) = first_line(rest);
+    while let Some((line, after)) = first_line(rest) {
         answer(rt, &mut rule, line)?;
         rest = after;
     }
