@@ -1,5 +1,7 @@
 // The canonical text of a rule's tree, in full brackets. That this text is written is proved. It is made to be a text of the same
 // tree by the grammar, which is only tested; its brackets can take it over the limits.
+#![tactic(auto)]
+
 ghost use Rattle.std.specs.Prelude.{◌≡◌, Some};
 ghost use Rattle.rule.specs.Held.{rule_tree};
 ghost use Rattle.canonical.specs.Text.{pattern_text};

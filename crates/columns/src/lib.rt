@@ -1,4 +1,6 @@
 // The column engine: it stands at a row of a list of signed words that the caller lends, and shows that row's values.
+#![tactic(auto)]
+
 ghost use Rattle.std.specs.Prelude.{◌≡◌, MatchResult};
 ghost use Rattle.engine.specs.Books.{answer, after};
 ghost use Rattle.engine.specs.declared.orders.Order.TheVariants.{Open, Turn, Skip};

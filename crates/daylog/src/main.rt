@@ -1,4 +1,6 @@
 // Reads rules and orders from standard input, and prints what a pile of two watches over the reckoned calendar answers.
+#![tactic(auto)]
+
 use std::io;
 use std::io::{Read, Write};
 use transcript::{INPUT_LIMIT, transcribe};

@@ -1,5 +1,7 @@
 // Prints every day that the reckoned engine comes to by turns, and then the number of the answer to the turn that is not taken.
 // A line has the six columns of a day, parted by single spaces.
+#![tactic(auto)]
+
 mod shown;
 
 use calendar::Reckoned;

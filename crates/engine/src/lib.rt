@@ -1,4 +1,6 @@
 // What every engine shows and every rule reads: values and rows, orders and answers, and the one interface of engines.
+#![tactic(auto)]
+
 ghost use Rattle.std.specs.Prelude.{◌≡◌};
 ghost use Rattle.engine.specs.Values.{value_of, row_with};
 

@@ -1,4 +1,6 @@
 // Bytes cut at marks, for the programs that read tables.
+#![tactic(auto)]
+
 ghost use Rattle.std.specs.Prelude.{◌≡◌, ℕ, ◌<◌, ◌≤◌, length, IfSome, IfNone, ◌≢◌, slice_index};
 ghost use Rattle.fields.specs.Fields.{Lacks, Ended};
 

@@ -2,6 +2,8 @@
 //
 // `specs/` has what this crate is for: how tokens are spelled and cut, the grammar as a relation between tokens and trees, the
 // limits, and which texts are read and refused. `proofs/` shows that no text has two trees and none is both read and refused.
+#![tactic(auto)]
+
 ghost use Rattle.std.specs.Prelude.{◌≡◌};
 ghost use Rattle.grammar.specs.Numbers.{number_of, place_of};
 ghost use Rattle.grammar.specs.Theorems.{OneTree, NeverBoth, OneRefusal};

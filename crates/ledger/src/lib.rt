@@ -1,4 +1,6 @@
 // The ledger of a pile of watches, and what holds of every pile. `specs/` has what this crate is for.
+#![tactic(auto)]
+
 ghost use Rattle.ledger.specs.Theorems.{LedgerSays, Nests, EveryPile};
 
 // What holds of every ledger and every pile.

@@ -1,4 +1,6 @@
 // Rows against a rule.
+#![tactic(auto)]
+
 mod truth;
 mod walk;
 

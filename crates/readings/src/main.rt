@@ -1,5 +1,7 @@
 // Reads the rule texts of standard input into one place for a rule, and prints what comes of each. A line of the input is a
 // watch number, a space and the bytes of a text.
+#![tactic(auto)]
+
 mod input;
 
 use canonical::Canonical;

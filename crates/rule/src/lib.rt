@@ -1,5 +1,7 @@
 // Reads rule texts: bytes are cut into tokens, the tokens are held against the limits, and the readers of the grammar put the
 // rule's tree into a table of numbered nodes. Nothing allocates.
+#![tactic(auto)]
+
 mod cutter;
 mod limits;
 mod node;

@@ -1,4 +1,6 @@
 // The lines that a day log is read from, and the text that it is written as.
+#![tactic(auto)]
+
 mod lines;
 mod orders;
 mod output;

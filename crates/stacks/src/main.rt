@@ -1,5 +1,7 @@
 // Reads cases from standard input: an engine, calls, and up to three watches. The watches are set over the engine as they come,
 // and in reversed stacking over another such engine. Both piles are sent the calls, and the replies of each are printed in a line.
+#![tactic(auto)]
+
 mod halting;
 mod input;
 mod piles;

@@ -1,4 +1,6 @@
 // A column file under two watches, with a wrong month and mended.
+#![tactic(auto)]
+
 use columns::Columns;
 use engine::{Call, Engine, Fault, Order, Reply, Shown, Value};
 use rule::Rule;

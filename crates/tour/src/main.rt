@@ -1,4 +1,6 @@
 // A tour for newcomers: rule texts are read into one place for a rule, or refused.
+#![tactic(auto)]
+
 mod months;
 mod shown;
 mod stops;

@@ -1,4 +1,6 @@
 // The whole output of `daylog` for a whole input, written into lent memory. Nothing allocates.
+#![tactic(auto)]
+
 mod log;
 mod sending;
 mod whole;

@@ -1,6 +1,8 @@
 // Reads rules and rows from standard input, and prints which rows pass. A line of the input is a rule's text and then the
 // rows, oldest first, each after a `;`. The answer has a letter for each beginning of the rows, from none to all, or for all
 // alone where the line begins with `=`.
+#![tactic(auto)]
+
 mod input;
 
 use engine::Row;

@@ -1,4 +1,6 @@
 // Watches over any engine, and runs of calls on piles of them.
+#![tactic(auto)]
+
 mod runs;
 mod table;
 mod watch;

@@ -11,8 +11,8 @@ before c =
     let found = searched xs c.args.day (Err c.in-Err.k) c.in-Err.ensures.position (ascending lengths xs c.requires.table) in
     between lengths xs c.requires.table c.args.day c.in-Err.k c.requires.first (rw (count, whole) c.requires.last) found.0 found.1 found.2
 
-pub overflow-sub-result : goal.overflow-sub-result
-overflow-sub-result c = (before c).0
+pub overflow_sub-result : goal.overflow_sub-result
+overflow_sub-result c = (before c).0
 
 pub returns-in-Ok : goal.returns-in-Ok
 returns-in-Ok c =

@@ -9,5 +9,5 @@ use Rattle.rule.proofs.limits.claims.Goals as goal
 pub returns-in-LeftSquare : goal.returns-in-LeftSquare
 returns-in-LeftSquare c = λ s e. sym (ap claiming (same_symbol LeftSquare s tt (sym c.in-LeftSquare.is ∙ e)))
 
-pub returns-in-default : goal.returns-in-default
-returns-in-default c = λ s e. claim_other s (at_base s) (λ q. c.in-default.not-LeftSquare (e ∙ ap tag q))
+pub returns-in_default : goal.returns-in_default
+returns-in_default c = λ s e. claim_other s (at_base s) (λ q. c.in_default.not-LeftSquare (e ∙ ap tag q))

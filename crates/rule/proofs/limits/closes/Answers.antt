@@ -9,5 +9,5 @@ use Rattle.rule.proofs.limits.closes.Goals as goal
 pub returns-in-RightRound : goal.returns-in-RightRound
 returns-in-RightRound c = λ s e. sym (ap closing (same_symbol RightRound s tt (sym c.in-RightRound.is ∙ e)))
 
-pub returns-in-default : goal.returns-in-default
-returns-in-default c = λ s e. close_other s (after_piece s) (λ q. c.in-default.not-RightRound (e ∙ ap tag q))
+pub returns-in_default : goal.returns-in_default
+returns-in_default c = λ s e. close_other s (after_piece s) (λ q. c.in_default.not-RightRound (e ∙ ap tag q))

@@ -9,5 +9,5 @@ use Rattle.rule.proofs.limits.opens.Goals as goal
 pub returns-in-LeftRound : goal.returns-in-LeftRound
 returns-in-LeftRound c = λ s e. sym (ap opening (same_symbol LeftRound s tt (sym c.in-LeftRound.is ∙ e)))
 
-pub returns-in-default : goal.returns-in-default
-returns-in-default c = λ s e. open_other s (at_base s) (λ q. c.in-default.not-LeftRound (e ∙ ap tag q))
+pub returns-in_default : goal.returns-in_default
+returns-in_default c = λ s e. open_other s (at_base s) (λ q. c.in_default.not-LeftRound (e ∙ ap tag q))

@@ -13,8 +13,8 @@ use Rattle.rule.proofs.limits.shallow.Goals as goal
 pub loop-i-init : goal.loop-i-init
 loop-i-init c = (refl, refl, omega arith, omega arith, λ j h o. omega arith)
 
-pub overflow-add-opened : goal.overflow-add-opened
-overflow-add-opened c =
+pub overflow_add-opened : goal.overflow_add-opened
+overflow_add-opened c =
     let t = c.args.tokens.now in
     let ts = symbols_of t in
     let i = c.loop-i.i in
@@ -24,8 +24,8 @@ overflow-add-opened c =
     omega (arith, c.loop-i.invariant.2, c.loop-i.invariant.3, stored t i _ c.len-i-end.ensures c.loop-i-test.true, o, opening_one (symbol_of ts i)) in
     search (rules, z)
 
-pub overflow-add-closed : goal.overflow-add-closed
-overflow-add-closed c =
+pub overflow_add-closed : goal.overflow_add-closed
+overflow_add-closed c =
     let t = c.args.tokens.now in
     let ts = symbols_of t in
     let i = c.loop-i.i in
@@ -35,8 +35,8 @@ overflow-add-closed c =
     omega (arith, c.loop-i.invariant.3, stored t i _ c.len-i-end.ensures c.loop-i-test.true, o, closing_one (symbol_of ts i)) in
     search (rules, z)
 
-pub returns-then-too-deep : goal.returns-then-too-deep
-returns-then-too-deep c =
+pub returns-then-too_deep : goal.returns-then-too_deep
+returns-then-too_deep c =
     let t = c.args.tokens.now in
     let ts = symbols_of t in
     let i = c.loop-i.i in
@@ -46,8 +46,8 @@ returns-then-too-deep c =
     let l = c.closes-closed.ensures _ k in
     faulted_at _ (ap TooDeep c.place.ensures) (record {
       deep = record {
-        stands = opened_at ts i h (omega (arith, c.loop-i.invariant.2, is_over _ _ c.if-too-deep.ensures, o));
-        over = omega (arith, count_more opening ts i h, count_more closing ts i h, o, l, c.loop-i.invariant.0, c.loop-i.invariant.1, is_over _ _ c.if-too-deep.ensures);
+        stands = opened_at ts i h (omega (arith, c.loop-i.invariant.2, is_over _ _ c.if-too_deep.ensures, o));
+        over = omega (arith, count_more opening ts i h, count_more closing ts i h, o, l, c.loop-i.invariant.0, c.loop-i.invariant.1, is_over _ _ c.if-too_deep.ensures);
       };
       first = c.loop-i.invariant.4;
     })
@@ -65,9 +65,9 @@ loop-i-preserved c =
     let b = count_more closing ts i h in (
       omega (arith, a, o, c.loop-i.invariant.0),
       omega (arith, b, l, c.loop-i.invariant.1),
-      omega (arith, is_under _ _ c.if-too-deep.ensures),
+      omega (arith, is_under _ _ c.if-too_deep.ensures),
       omega (arith, c.loop-i.invariant.3, l, closing_one (symbol_of ts i)),
-      below_more (λ (j : ℕ). Deep ts j → ⊥) i c.loop-i.invariant.4 (λ d. omega (arith, d.over, a, b, o, l, c.loop-i.invariant.0, c.loop-i.invariant.1, is_under _ _ c.if-too-deep.ensures)),
+      below_more (λ (j : ℕ). Deep ts j → ⊥) i c.loop-i.invariant.4 (λ d. omega (arith, d.over, a, b, o, l, c.loop-i.invariant.0, c.loop-i.invariant.1, is_under _ _ c.if-too_deep.ensures)),
     )
 
 pub returns : goal.returns

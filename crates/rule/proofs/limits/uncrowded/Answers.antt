@@ -11,8 +11,8 @@ use Rattle.rule.proofs.limits.uncrowded.Goals as goal
 pub loop-i-init : goal.loop-i-init
 loop-i-init c = (refl, omega arith)
 
-pub overflow-add-found : goal.overflow-add-found
-overflow-add-found c =
+pub overflow_add-found : goal.overflow_add-found
+overflow_add-found c =
     let t = c.args.tokens.now in
     let ts = symbols_of t in
     let i = c.loop-i.i in
@@ -21,16 +21,16 @@ overflow-add-found c =
     let z : c.loop-i.found + c.claims-found.result < 2 ^ 8 = omega (arith, c.loop-i.invariant.1, n, claiming_one (symbol_of ts i)) in
     search (rules, z)
 
-pub returns-then-too-crowded : goal.returns-then-too-crowded
-returns-then-too-crowded c =
+pub returns-then-too_crowded : goal.returns-then-too_crowded
+returns-then-too_crowded c =
     let t = c.args.tokens.now in
     let ts = symbols_of t in
     let i = c.loop-i.i in
     let h = inside t i _ c.len-i-end.ensures c.loop-i-test.true in
     let n = c.claims-found.ensures _ (tag_at ts i h c.tag.ensures) in
     faulted_at _ (ap TooManyClaims c.place.ensures) (record {
-      stands = claimed_at ts i h (omega (arith, c.loop-i.invariant.1, n, is_over _ _ c.if-too-crowded.ensures));
-      before = omega (arith, c.loop-i.invariant.0, c.loop-i.invariant.1, n, claiming_one (symbol_of ts i), is_over _ _ c.if-too-crowded.ensures);
+      stands = claimed_at ts i h (omega (arith, c.loop-i.invariant.1, n, is_over _ _ c.if-too_crowded.ensures));
+      before = omega (arith, c.loop-i.invariant.0, c.loop-i.invariant.1, n, claiming_one (symbol_of ts i), is_over _ _ c.if-too_crowded.ensures);
     })
 
 pub loop-i-preserved : goal.loop-i-preserved
@@ -40,7 +40,7 @@ loop-i-preserved c =
     let i = c.loop-i.i in
     let h = inside t i _ c.len-i-end.ensures c.loop-i-test.true in
     let n = c.claims-found.ensures _ (tag_at ts i h c.tag.ensures) in
-    (omega (arith, count_more claiming ts i h, n, c.loop-i.invariant.0), is_under _ _ c.if-too-crowded.ensures)
+    (omega (arith, count_more claiming ts i h, n, c.loop-i.invariant.0), is_under _ _ c.if-too_crowded.ensures)
 
 pub returns : goal.returns
 returns c =

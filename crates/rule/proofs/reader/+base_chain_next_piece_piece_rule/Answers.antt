@@ -14,59 +14,59 @@ use Rattle.rule.proofs.ClaimSteps.{claim_closed, claim_cut}
 use Rattle.rule.proofs.Steps.{base_blank, base_stops, base_round, base_unclosed, base_inner, base_square, base_unsquare, piece_more, chain_first, chain_more, chain_fails, rule_first, rule_more, rule_fails}
 use Rattle.rule.proofs.reader.+base_chain_next_piece_piece_rule.Goals as goal
 
-pub chain-overflow-add-left : goal.chain-overflow-add-left
-chain-overflow-add-left t c =
+pub chain-overflow_add-left : goal.chain-overflow_add-left
+chain-overflow_add-left t c =
     let ts = symbols_of c.args.tokens.now in
-    let a = c.in-ok-left.ensures in
+    let a = c.in_ok-left.ensures in
     let m = c.loop-tree.invariant _ _ (same (ChainSoFar ts c.args.at) c.args.at c.args.at a (omega arith) (chain_first ts c.args.at _ _ a.is)) in
     let z : c.loop-tree.left.next + 1 < 2 ^ 64 = omega (arith, m.is.within, c.requires.inside.short) in
     search (rules, z)
 
-pub chain-next-piece-requires : goal.chain-next-piece-requires
-chain-next-piece-requires t c =
+pub chain-next_piece-requires : goal.chain-next_piece-requires
+chain-next_piece-requires t c =
     let ts = symbols_of c.args.tokens.now in
-    let a = c.in-ok-left.ensures in
+    let a = c.in_ok-left.ensures in
     let m = c.loop-tree.invariant _ _ (same (ChainSoFar ts c.args.at) c.args.at c.args.at a (omega arith) (chain_first ts c.args.at _ _ a.is)) in
     let n = here ts c.loop-tree.left.next Dot c.in-Dot.ensures tt in
     (omega (arith, n.within, c.decreases, m.is.on), ready_to c.requires c.loop-tree.tree _ m.few n.within)
 
-pub chain-returns-in-err-right : goal.chain-returns-in-err-right
-chain-returns-in-err-right t c =
+pub chain-returns-in_err-right : goal.chain-returns-in_err-right
+chain-returns-in_err-right t c =
     let ts = symbols_of c.args.tokens.now in
-    let a = c.in-ok-left.ensures in
+    let a = c.in_ok-left.ensures in
     let m = c.loop-tree.invariant _ _ (same (ChainSoFar ts c.args.at) c.args.at c.args.at a (omega arith) (chain_first ts c.args.at _ _ a.is)) in
     let n = here ts c.loop-tree.left.next Dot c.in-Dot.ensures tt in
-    let p = err_from_is_err_and c.from-residual-in-err-right.result c.from-residual-in-err-right.ensures.1 in
-    rw (p.1, p.2) (faulted (λ k. chain_fails ts c.args.at c.loop-tree.left.next _ _ m.is n) c.in-err-right.ensures)
+    let p = err_from_is_err_and c.from_residual-in_err-right.result c.from_residual-in_err-right.ensures.1 in
+    rw (p.1, p.2) (faulted (λ k. chain_fails ts c.args.at c.loop-tree.left.next _ _ m.is n) c.in_err-right.ensures)
 
 pub chain-add-node-requires : goal.chain-add-node-requires
 chain-add-node-requires t c =
     let ts = symbols_of c.args.tokens.now in
-    let a = c.in-ok-left.ensures in
+    let a = c.in_ok-left.ensures in
     let m = c.loop-tree.invariant _ _ (same (ChainSoFar ts c.args.at) c.args.at c.args.at a (omega arith) (chain_first ts c.args.at _ _ a.is)) in
-    let b = c.in-ok-right.ensures in
-    record { room = room_to c.requires _ c.in-ok-right.right.next (omega (arith, m.few, b.few)) b.is.base.within; parts = (later b _ m.there, b.there) }
+    let b = c.in_ok-right.ensures in
+    record { room = room_to c.requires _ c.in_ok-right.right.next (omega (arith, m.few, b.few)) b.is.base.within; parts = (later b _ m.there, b.there) }
 
 pub chain-loop-tree-preserved : goal.chain-loop-tree-preserved
 chain-loop-tree-preserved t c = λ old at first.
     let ts = symbols_of c.args.tokens.now in
     let m = c.loop-tree.invariant old at first in
     let n = here ts c.loop-tree.left.next Dot c.in-Dot.ensures tt in
-    let b = c.in-ok-right.ensures in
+    let b = c.in_ok-right.ensures in
     join as_pattern as_pattern as_pattern (ChainSoFar ts at) at _ _ sequence m b c.add-node.ensures.more c.add-node.ensures.place (omega arith) (λ us. refl)
     (chain_more ts at _ _ _ _ m.is n b.is)
 
 pub chain-returns : goal.chain-returns
 chain-returns t c =
     let ts = symbols_of c.args.tokens.now in
-    let a = c.in-ok-left.ensures in
+    let a = c.in_ok-left.ensures in
     let m = c.loop-tree.invariant _ _ (same (ChainSoFar ts c.args.at) c.args.at c.args.at a (omega arith) (chain_first ts c.args.at _ _ a.is)) in
-    same (ChainEnds ts c.args.at) c.args.at c.args.at m (omega arith) (record { so_far = m.is; over = lacks Dot _ c.tag.ensures c.in-default.not-Dot })
+    same (ChainEnds ts c.args.at) c.args.at c.args.at m (omega arith) (record { so_far = m.is; over = lacks Dot _ c.tag.ensures c.in_default.not-Dot })
 
-pub rule-overflow-add-left : goal.rule-overflow-add-left
-rule-overflow-add-left t c =
+pub rule-overflow_add-left : goal.rule-overflow_add-left
+rule-overflow_add-left t c =
     let ts = symbols_of c.args.tokens.now in
-    let a = c.in-ok-left.ensures in
+    let a = c.in_ok-left.ensures in
     let m = c.loop-tree.invariant _ _ (same (RuleSoFar ts c.args.at) c.args.at c.args.at a (omega arith) (rule_first ts c.args.at _ _ a.is)) in
     let z : c.loop-tree.left.next + 1 < 2 ^ 64 = omega (arith, m.is.within, c.requires.inside.short) in
     search (rules, z)
@@ -74,53 +74,53 @@ rule-overflow-add-left t c =
 pub rule-chain-requires-in-Bar : goal.rule-chain-requires-in-Bar
 rule-chain-requires-in-Bar t c =
     let ts = symbols_of c.args.tokens.now in
-    let a = c.in-ok-left.ensures in
+    let a = c.in_ok-left.ensures in
     let m = c.loop-tree.invariant _ _ (same (RuleSoFar ts c.args.at) c.args.at c.args.at a (omega arith) (rule_first ts c.args.at _ _ a.is)) in
     let n = here ts c.loop-tree.left.next Bar c.in-Bar.ensures tt in
     (omega (arith, n.within, c.decreases, m.is.on), ready_to c.requires c.loop-tree.tree _ m.few n.within)
 
-pub rule-returns-in-err-right : goal.rule-returns-in-err-right
-rule-returns-in-err-right t c =
+pub rule-returns-in_err-right : goal.rule-returns-in_err-right
+rule-returns-in_err-right t c =
     let ts = symbols_of c.args.tokens.now in
-    let a = c.in-ok-left.ensures in
+    let a = c.in_ok-left.ensures in
     let m = c.loop-tree.invariant _ _ (same (RuleSoFar ts c.args.at) c.args.at c.args.at a (omega arith) (rule_first ts c.args.at _ _ a.is)) in
     let n = here ts c.loop-tree.left.next Bar c.in-Bar.ensures tt in
-    let p = err_from_is_err_and c.from-residual-in-err-right.result c.from-residual-in-err-right.ensures.1 in
-    rw (p.1, p.2) (faulted (λ k. rule_fails ts c.args.at c.loop-tree.left.next _ _ m.is n) c.in-err-right.ensures)
+    let p = err_from_is_err_and c.from_residual-in_err-right.result c.from_residual-in_err-right.ensures.1 in
+    rw (p.1, p.2) (faulted (λ k. rule_fails ts c.args.at c.loop-tree.left.next _ _ m.is n) c.in_err-right.ensures)
 
 pub rule-add-node-requires : goal.rule-add-node-requires
 rule-add-node-requires t c =
     let ts = symbols_of c.args.tokens.now in
-    let a = c.in-ok-left.ensures in
+    let a = c.in_ok-left.ensures in
     let m = c.loop-tree.invariant _ _ (same (RuleSoFar ts c.args.at) c.args.at c.args.at a (omega arith) (rule_first ts c.args.at _ _ a.is)) in
-    let b = c.in-ok-right.ensures in
-    record { room = room_to c.requires _ c.in-ok-right.right.next (omega (arith, m.few, b.few)) b.is.so_far.within; parts = (later b _ m.there, b.there) }
+    let b = c.in_ok-right.ensures in
+    record { room = room_to c.requires _ c.in_ok-right.right.next (omega (arith, m.few, b.few)) b.is.so_far.within; parts = (later b _ m.there, b.there) }
 
 pub rule-loop-tree-preserved : goal.rule-loop-tree-preserved
 rule-loop-tree-preserved t c = λ old at first.
     let ts = symbols_of c.args.tokens.now in
     let m = c.loop-tree.invariant old at first in
     let n = here ts c.loop-tree.left.next Bar c.in-Bar.ensures tt in
-    let b = c.in-ok-right.ensures in
+    let b = c.in_ok-right.ensures in
     join as_pattern as_pattern as_pattern (RuleSoFar ts at) at _ _ alternative m b c.add-node.ensures.more c.add-node.ensures.place (omega arith) (λ us. refl)
     (rule_more ts at _ _ _ _ m.is n b.is)
 
 pub rule-returns : goal.rule-returns
 rule-returns t c =
     let ts = symbols_of c.args.tokens.now in
-    let a = c.in-ok-left.ensures in
+    let a = c.in_ok-left.ensures in
     let m = c.loop-tree.invariant _ _ (same (RuleSoFar ts c.args.at) c.args.at c.args.at a (omega arith) (rule_first ts c.args.at _ _ a.is)) in
-    same (RuleEnds ts c.args.at) c.args.at c.args.at m (omega arith) (record { so_far = m.is; over = lacks Bar _ c.tag.ensures c.in-default.not-Bar })
+    same (RuleEnds ts c.args.at) c.args.at c.args.at m (omega arith) (record { so_far = m.is; over = lacks Bar _ c.tag.ensures c.in_default.not-Bar })
 
 pub piece-add-node-requires : goal.piece-add-node-requires
 piece-add-node-requires t c =
-    let m = c.loop-tree.invariant _ _ c.in-ok-inner.ensures in
+    let m = c.loop-tree.invariant _ _ c.in_ok-inner.ensures in
     let n = here (symbols_of c.args.tokens.now) c.loop-tree.inner.next Star c.in-Star.ensures tt in
     record { room = room_to c.requires _ (c.loop-tree.inner.next + 1) (omega (arith, m.few)) (omega (arith, n.within)); parts = m.there }
 
-pub piece-overflow-add-inner : goal.piece-overflow-add-inner
-piece-overflow-add-inner t c =
-    let m = c.loop-tree.invariant _ _ c.in-ok-inner.ensures in
+pub piece-overflow_add-inner : goal.piece-overflow_add-inner
+piece-overflow_add-inner t c =
+    let m = c.loop-tree.invariant _ _ c.in_ok-inner.ensures in
     let z : c.loop-tree.inner.next + 1 < 2 ^ 64 = omega (arith, m.is.within, c.requires.inside.short) in
     search (rules, z)
 
@@ -139,8 +139,8 @@ piece-loop-tree-preserved t c = λ old at first.
 
 pub piece-returns : goal.piece-returns
 piece-returns t c =
-    let m = c.loop-tree.invariant _ _ c.in-ok-inner.ensures in
-    same (PieceEnds (symbols_of c.args.tokens.now) c.args.at) c.args.at c.args.at m (omega arith) (record { base = m.is; over = lacks Star _ c.tag.ensures c.in-default.not-Star })
+    let m = c.loop-tree.invariant _ _ c.in_ok-inner.ensures in
+    same (PieceEnds (symbols_of c.args.tokens.now) c.args.at) c.args.at c.args.at m (omega arith) (record { base = m.is; over = lacks Star _ c.tag.ensures c.in_default.not-Star })
 
 pub base-add-node-requires : goal.base-add-node-requires
 base-add-node-requires t c =
@@ -158,61 +158,61 @@ base-rule-requires t c =
     let n = here (symbols_of c.args.tokens.now) c.args.at LeftRound c.in-LeftRound.ensures tt in
     (omega (arith, n.within, c.decreases), ready_next c.requires n.within)
 
-pub base-returns-in-err-inner : goal.base-returns-in-err-inner
-base-returns-in-err-inner t c =
+pub base-returns-in_err-inner : goal.base-returns-in_err-inner
+base-returns-in_err-inner t c =
     let n = here (symbols_of c.args.tokens.now) c.args.at LeftRound c.in-LeftRound.ensures tt in
-    let p = err_from_is_err_and c.from-residual.result c.from-residual.ensures.1 in
-    rw (p.1, p.2) (faulted (λ k. base_inner (symbols_of c.args.tokens.now) c.args.at _ n) c.in-err-inner.ensures)
+    let p = err_from_is_err_and c.from_residual.result c.from_residual.ensures.1 in
+    rw (p.1, p.2) (faulted (λ k. base_inner (symbols_of c.args.tokens.now) c.args.at _ n) c.in_err-inner.ensures)
 
 pub base-returns-in-RightRound : goal.base-returns-in-RightRound
 base-returns-in-RightRound t c =
     let ts = symbols_of c.args.tokens.now in
     let n = here ts c.args.at LeftRound c.in-LeftRound.ensures tt in
-    let a = c.in-ok-inner.ensures in
-    let m = here ts c.in-ok-inner.inner.next RightRound c.in-RightRound.ensures tt in
+    let a = c.in_ok-inner.ensures in
+    let m = here ts c.in_ok-inner.inner.next RightRound c.in-RightRound.ensures tt in
     same (BaseEnds ts c.args.at) c.args.at _ a (omega arith) (base_round ts c.args.at _ _ n a.is m)
 
-pub base-returns-in-default-tag : goal.base-returns-in-default-tag
-base-returns-in-default-tag t c =
+pub base-returns-in_default-tag : goal.base-returns-in_default-tag
+base-returns-in_default-tag t c =
     let ts = symbols_of c.args.tokens.now in
     let n = here ts c.args.at LeftRound c.in-LeftRound.ensures tt in
-    faulted_at _ c.unexpected.ensures (base_unclosed ts c.args.at _ _ n c.in-ok-inner.ensures.is (lacks RightRound _ c.tag-in-LeftRound.ensures c.in-default-tag.not-RightRound))
+    faulted_at _ c.unexpected.ensures (base_unclosed ts c.args.at _ _ n c.in_ok-inner.ensures.is (lacks RightRound _ c.tag-in-LeftRound.ensures c.in_default-tag.not-RightRound))
 
 pub base-claim-requires : goal.base-claim-requires
 base-claim-requires t c =
     let n = here (symbols_of c.args.tokens.now) c.args.at LeftSquare c.in-LeftSquare.ensures tt in
     ready_next c.requires n.within
 
-pub base-returns-in-err-inner-2 : goal.base-returns-in-err-inner-2
-base-returns-in-err-inner-2 t c =
+pub base-returns-in_err-inner-2 : goal.base-returns-in_err-inner-2
+base-returns-in_err-inner-2 t c =
     let n = here (symbols_of c.args.tokens.now) c.args.at LeftSquare c.in-LeftSquare.ensures tt in
-    let f = c.in-err-inner-2.ensures in
-    let p = err_from_is_err_and c.from-residual-in-err-inner-2.result c.from-residual-in-err-inner-2.ensures.1 in
+    let f = c.in_err-inner-2.ensures in
+    let p = err_from_is_err_and c.from_residual-in_err-inner-2.result c.from_residual-in_err-inner-2.ensures.1 in
     rw (p.1, p.2) (faulted (λ k g. base_unsquare (symbols_of c.args.tokens.now) c.args.at k n g.within (g.runs [])) f)
 
 pub base-add-node-requires-in-RightSquare : goal.base-add-node-requires-in-RightSquare
 base-add-node-requires-in-RightSquare t c =
-    let a = c.in-ok-inner-2.ensures in
-    record { room = room_to c.requires _ c.in-ok-inner-2.inner.next (omega (arith, a.few)) a.is.within; parts = a.there }
+    let a = c.in_ok-inner-2.ensures in
+    record { room = room_to c.requires _ c.in_ok-inner-2.inner.next (omega (arith, a.few)) a.is.within; parts = a.there }
 
 pub base-returns-in-RightSquare : goal.base-returns-in-RightSquare
 base-returns-in-RightSquare t c =
     let ts = symbols_of c.args.tokens.now in
     let n = here ts c.args.at LeftSquare c.in-LeftSquare.ensures tt in
-    let a = c.in-ok-inner-2.ensures in
-    let m = here ts c.in-ok-inner-2.inner.next RightSquare c.in-RightSquare.ensures tt in
+    let a = c.in_ok-inner-2.ensures in
+    let m = here ts c.in_ok-inner-2.inner.next RightSquare c.in-RightSquare.ensures tt in
     wrap as_claim as_pattern (BaseEnds ts c.args.at) c.args.at _ _ claim_pattern a c.add-node-in-RightSquare.ensures.more c.add-node-in-RightSquare.ensures.place (omega arith) (λ us. refl)
     (base_square ts c.args.at _ _ n (omega (arith, a.is.on)) (omega (arith, m.within)) (claim_closed ts _ _ _ a.is m))
 
-pub base-returns-in-default-tag-2 : goal.base-returns-in-default-tag-2
-base-returns-in-default-tag-2 t c =
+pub base-returns-in_default-tag-2 : goal.base-returns-in_default-tag-2
+base-returns-in_default-tag-2 t c =
     let ts = symbols_of c.args.tokens.now in
     let n = here ts c.args.at LeftSquare c.in-LeftSquare.ensures tt in
-    let a = c.in-ok-inner-2.ensures in
-    faulted_at _ c.unexpected-in-default-tag-2.ensures (base_unsquare ts c.args.at _ n a.is.within (claim_cut ts _ _ _ a.is (lacks RightSquare _ c.tag-in-LeftSquare.ensures c.in-default-tag-2.not-RightSquare)))
+    let a = c.in_ok-inner-2.ensures in
+    faulted_at _ c.unexpected-in_default-tag-2.ensures (base_unsquare ts c.args.at _ n a.is.within (claim_cut ts _ _ _ a.is (lacks RightSquare _ c.tag-in-LeftSquare.ensures c.in_default-tag-2.not-RightSquare)))
 
-pub base-returns-in-default : goal.base-returns-in-default
-base-returns-in-default t c =
-    faulted_at _ c.unexpected-in-default.ensures
+pub base-returns-in_default : goal.base-returns-in_default
+base-returns-in_default t c =
+    faulted_at _ c.unexpected-in_default.ensures
     (base_stops (symbols_of c.args.tokens.now) c.args.at c.requires.inside.within
-    (lacks Underscore _ c.tag.ensures c.in-default.not-Underscore) (lacks LeftRound _ c.tag.ensures c.in-default.not-LeftRound) (lacks LeftSquare _ c.tag.ensures c.in-default.not-LeftSquare))
+    (lacks Underscore _ c.tag.ensures c.in_default.not-Underscore) (lacks LeftRound _ c.tag.ensures c.in_default.not-LeftRound) (lacks LeftSquare _ c.tag.ensures c.in_default.not-LeftSquare))

@@ -12,8 +12,8 @@ decreases-base l = 5 * (length (symbols_of l.tokens.now) - l.at)
 abbrev pub decreases-piece : goal.decreases-piece
 decreases-piece l = 5 * (length (symbols_of l.tokens.now) - l.at) + 1
 
-abbrev pub decreases-next-piece : goal.decreases-next-piece
-decreases-next-piece l = 5 * (length (symbols_of l.tokens.now) - l.at) + 2
+abbrev pub decreases-next_piece : goal.decreases-next_piece
+decreases-next_piece l = 5 * (length (symbols_of l.tokens.now) - l.at) + 2
 
 abbrev pub decreases-chain : goal.decreases-chain
 decreases-chain l = 5 * (length (symbols_of l.tokens.now) - l.at) + 3

@@ -17,10 +17,10 @@ use Rattle.rule.proofs.Rooms.{inside_to, ready_to, ready_next, room_to}
 use Rattle.rule.proofs.ClaimSteps.{name_on, single_true, single_not, single_not_fails, single_has, single_has_fails, single_compare, single_compare_fails, single_round, single_unclosed, single_inner, both_first, both_more, both_fails, either_first, either_more, either_fails, claim_one, claim_two, claim_second}
 use Rattle.rule.proofs.reader.+both_claim_either_single.Goals as goal
 
-pub both-overflow-add-left : goal.both-overflow-add-left
-both-overflow-add-left t c =
+pub both-overflow_add-left : goal.both-overflow_add-left
+both-overflow_add-left t c =
     let ts = symbols_of c.args.tokens.now in
-    let a = c.in-ok-left.ensures in
+    let a = c.in_ok-left.ensures in
     let m = c.loop-tree.invariant _ _ (same (BothSoFar ts c.args.at) c.args.at c.args.at a (omega arith) (both_first ts c.args.at _ _ a.is)) in
     let z : c.loop-tree.left.next + 1 < 2 ^ 64 = omega (arith, m.is.within, c.requires.inside.short) in
     search (rules, z)
@@ -28,48 +28,48 @@ both-overflow-add-left t c =
 pub both-single-requires-in-And : goal.both-single-requires-in-And
 both-single-requires-in-And t c =
     let ts = symbols_of c.args.tokens.now in
-    let a = c.in-ok-left.ensures in
+    let a = c.in_ok-left.ensures in
     let m = c.loop-tree.invariant _ _ (same (BothSoFar ts c.args.at) c.args.at c.args.at a (omega arith) (both_first ts c.args.at _ _ a.is)) in
     let n = here ts c.loop-tree.left.next And c.in-And.ensures tt in
     (omega (arith, n.within, c.decreases, m.is.on), ready_to c.requires c.loop-tree.tree _ m.few n.within)
 
-pub both-returns-in-err-right : goal.both-returns-in-err-right
-both-returns-in-err-right t c =
+pub both-returns-in_err-right : goal.both-returns-in_err-right
+both-returns-in_err-right t c =
     let ts = symbols_of c.args.tokens.now in
-    let a = c.in-ok-left.ensures in
+    let a = c.in_ok-left.ensures in
     let m = c.loop-tree.invariant _ _ (same (BothSoFar ts c.args.at) c.args.at c.args.at a (omega arith) (both_first ts c.args.at _ _ a.is)) in
     let n = here ts c.loop-tree.left.next And c.in-And.ensures tt in
-    let p = err_from_is_err_and c.from-residual-in-err-right.result c.from-residual-in-err-right.ensures.1 in
-    rw (p.1, p.2) (faulted (λ k. both_fails ts c.args.at c.loop-tree.left.next _ _ m.is n) c.in-err-right.ensures)
+    let p = err_from_is_err_and c.from_residual-in_err-right.result c.from_residual-in_err-right.ensures.1 in
+    rw (p.1, p.2) (faulted (λ k. both_fails ts c.args.at c.loop-tree.left.next _ _ m.is n) c.in_err-right.ensures)
 
 pub both-add-node-requires : goal.both-add-node-requires
 both-add-node-requires t c =
     let ts = symbols_of c.args.tokens.now in
-    let a = c.in-ok-left.ensures in
+    let a = c.in_ok-left.ensures in
     let m = c.loop-tree.invariant _ _ (same (BothSoFar ts c.args.at) c.args.at c.args.at a (omega arith) (both_first ts c.args.at _ _ a.is)) in
-    let b = c.in-ok-right.ensures in
-    record { room = room_to c.requires _ c.in-ok-right.right.next (omega (arith, m.few, b.few)) b.is.within; parts = (later b _ m.there, b.there) }
+    let b = c.in_ok-right.ensures in
+    record { room = room_to c.requires _ c.in_ok-right.right.next (omega (arith, m.few, b.few)) b.is.within; parts = (later b _ m.there, b.there) }
 
 pub both-loop-tree-preserved : goal.both-loop-tree-preserved
 both-loop-tree-preserved t c = λ old at first.
     let ts = symbols_of c.args.tokens.now in
     let m = c.loop-tree.invariant old at first in
     let n = here ts c.loop-tree.left.next And c.in-And.ensures tt in
-    let b = c.in-ok-right.ensures in
+    let b = c.in_ok-right.ensures in
     join as_claim as_claim as_claim (BothSoFar ts at) at _ _ both_claim m b c.add-node.ensures.more c.add-node.ensures.place (omega arith) (λ us. refl)
     (both_more ts at _ _ _ _ m.is n b.is)
 
 pub both-returns : goal.both-returns
 both-returns t c =
     let ts = symbols_of c.args.tokens.now in
-    let a = c.in-ok-left.ensures in
+    let a = c.in_ok-left.ensures in
     let m = c.loop-tree.invariant _ _ (same (BothSoFar ts c.args.at) c.args.at c.args.at a (omega arith) (both_first ts c.args.at _ _ a.is)) in
-    same (BothEnds ts c.args.at) c.args.at c.args.at m (omega arith) (record { so_far = m.is; over = lacks And _ c.tag.ensures c.in-default.not-And })
+    same (BothEnds ts c.args.at) c.args.at c.args.at m (omega arith) (record { so_far = m.is; over = lacks And _ c.tag.ensures c.in_default.not-And })
 
-pub either-overflow-add-left : goal.either-overflow-add-left
-either-overflow-add-left t c =
+pub either-overflow_add-left : goal.either-overflow_add-left
+either-overflow_add-left t c =
     let ts = symbols_of c.args.tokens.now in
-    let a = c.in-ok-left.ensures in
+    let a = c.in_ok-left.ensures in
     let m = c.loop-tree.invariant _ _ (same (EitherSoFar ts c.args.at) c.args.at c.args.at a (omega arith) (either_first ts c.args.at _ _ a.is)) in
     let z : c.loop-tree.left.next + 1 < 2 ^ 64 = omega (arith, m.is.within, c.requires.inside.short) in
     search (rules, z)
@@ -77,98 +77,98 @@ either-overflow-add-left t c =
 pub either-both-requires-in-Or : goal.either-both-requires-in-Or
 either-both-requires-in-Or t c =
     let ts = symbols_of c.args.tokens.now in
-    let a = c.in-ok-left.ensures in
+    let a = c.in_ok-left.ensures in
     let m = c.loop-tree.invariant _ _ (same (EitherSoFar ts c.args.at) c.args.at c.args.at a (omega arith) (either_first ts c.args.at _ _ a.is)) in
     let n = here ts c.loop-tree.left.next Or c.in-Or.ensures tt in
     (omega (arith, n.within, c.decreases, m.is.on), ready_to c.requires c.loop-tree.tree _ m.few n.within)
 
-pub either-returns-in-err-right : goal.either-returns-in-err-right
-either-returns-in-err-right t c =
+pub either-returns-in_err-right : goal.either-returns-in_err-right
+either-returns-in_err-right t c =
     let ts = symbols_of c.args.tokens.now in
-    let a = c.in-ok-left.ensures in
+    let a = c.in_ok-left.ensures in
     let m = c.loop-tree.invariant _ _ (same (EitherSoFar ts c.args.at) c.args.at c.args.at a (omega arith) (either_first ts c.args.at _ _ a.is)) in
     let n = here ts c.loop-tree.left.next Or c.in-Or.ensures tt in
-    let p = err_from_is_err_and c.from-residual-in-err-right.result c.from-residual-in-err-right.ensures.1 in
-    rw (p.1, p.2) (faulted (λ k. either_fails ts c.args.at c.loop-tree.left.next _ _ m.is n) c.in-err-right.ensures)
+    let p = err_from_is_err_and c.from_residual-in_err-right.result c.from_residual-in_err-right.ensures.1 in
+    rw (p.1, p.2) (faulted (λ k. either_fails ts c.args.at c.loop-tree.left.next _ _ m.is n) c.in_err-right.ensures)
 
 pub either-add-node-requires : goal.either-add-node-requires
 either-add-node-requires t c =
     let ts = symbols_of c.args.tokens.now in
-    let a = c.in-ok-left.ensures in
+    let a = c.in_ok-left.ensures in
     let m = c.loop-tree.invariant _ _ (same (EitherSoFar ts c.args.at) c.args.at c.args.at a (omega arith) (either_first ts c.args.at _ _ a.is)) in
-    let b = c.in-ok-right.ensures in
-    record { room = room_to c.requires _ c.in-ok-right.right.next (omega (arith, m.few, b.few)) b.is.so_far.within; parts = (later b _ m.there, b.there) }
+    let b = c.in_ok-right.ensures in
+    record { room = room_to c.requires _ c.in_ok-right.right.next (omega (arith, m.few, b.few)) b.is.so_far.within; parts = (later b _ m.there, b.there) }
 
 pub either-loop-tree-preserved : goal.either-loop-tree-preserved
 either-loop-tree-preserved t c = λ old at first.
     let ts = symbols_of c.args.tokens.now in
     let m = c.loop-tree.invariant old at first in
     let n = here ts c.loop-tree.left.next Or c.in-Or.ensures tt in
-    let b = c.in-ok-right.ensures in
+    let b = c.in_ok-right.ensures in
     join as_claim as_claim as_claim (EitherSoFar ts at) at _ _ either_claim m b c.add-node.ensures.more c.add-node.ensures.place (omega arith) (λ us. refl)
     (either_more ts at _ _ _ _ m.is n b.is)
 
 pub either-returns : goal.either-returns
 either-returns t c =
     let ts = symbols_of c.args.tokens.now in
-    let a = c.in-ok-left.ensures in
+    let a = c.in_ok-left.ensures in
     let m = c.loop-tree.invariant _ _ (same (EitherSoFar ts c.args.at) c.args.at c.args.at a (omega arith) (either_first ts c.args.at _ _ a.is)) in
-    same (EitherEnds ts c.args.at) c.args.at c.args.at m (omega arith) (record { so_far = m.is; over = lacks Or _ c.tag.ensures c.in-default.not-Or })
+    same (EitherEnds ts c.args.at) c.args.at c.args.at m (omega arith) (record { so_far = m.is; over = lacks Or _ c.tag.ensures c.in_default.not-Or })
 
 pub claim-either-requires-in-Arrow : goal.claim-either-requires-in-Arrow
 claim-either-requires-in-Arrow t c =
-    let a = c.in-ok-left.ensures in
-    let n = here (symbols_of c.args.tokens.now) c.in-ok-left.left.next Arrow c.in-Arrow.ensures tt in
+    let a = c.in_ok-left.ensures in
+    let n = here (symbols_of c.args.tokens.now) c.in_ok-left.left.next Arrow c.in-Arrow.ensures tt in
     (omega (arith, n.within, c.decreases, a.is.so_far.on), ready_to c.requires c.either.new.tree _ a.few n.within)
 
-pub claim-returns-in-err-right : goal.claim-returns-in-err-right
-claim-returns-in-err-right t c =
-    let n = here (symbols_of c.args.tokens.now) c.in-ok-left.left.next Arrow c.in-Arrow.ensures tt in
-    let p = err_from_is_err_and c.from-residual-in-err-right.result c.from-residual-in-err-right.ensures.1 in
-    rw (p.1, p.2) (faulted (λ k. claim_second (symbols_of c.args.tokens.now) c.args.at c.in-ok-left.left.next _ _ c.in-ok-left.ensures.is n) c.in-err-right.ensures)
+pub claim-returns-in_err-right : goal.claim-returns-in_err-right
+claim-returns-in_err-right t c =
+    let n = here (symbols_of c.args.tokens.now) c.in_ok-left.left.next Arrow c.in-Arrow.ensures tt in
+    let p = err_from_is_err_and c.from_residual-in_err-right.result c.from_residual-in_err-right.ensures.1 in
+    rw (p.1, p.2) (faulted (λ k. claim_second (symbols_of c.args.tokens.now) c.args.at c.in_ok-left.left.next _ _ c.in_ok-left.ensures.is n) c.in_err-right.ensures)
 
 pub claim-add-node-requires : goal.claim-add-node-requires
 claim-add-node-requires t c =
-    let a = c.in-ok-left.ensures in
-    let b = c.in-ok-right.ensures in
-    record { room = room_to c.requires _ c.in-ok-right.right.next (omega (arith, a.few, b.few)) b.is.so_far.within; parts = (later b _ a.there, b.there) }
+    let a = c.in_ok-left.ensures in
+    let b = c.in_ok-right.ensures in
+    record { room = room_to c.requires _ c.in_ok-right.right.next (omega (arith, a.few, b.few)) b.is.so_far.within; parts = (later b _ a.there, b.there) }
 
-pub claim-returns-in-ok-right : goal.claim-returns-in-ok-right
-claim-returns-in-ok-right t c =
+pub claim-returns-in_ok-right : goal.claim-returns-in_ok-right
+claim-returns-in_ok-right t c =
     let ts = symbols_of c.args.tokens.now in
-    let n = here ts c.in-ok-left.left.next Arrow c.in-Arrow.ensures tt in
-    let a = c.in-ok-left.ensures in
-    let b = c.in-ok-right.ensures in
+    let n = here ts c.in_ok-left.left.next Arrow c.in-Arrow.ensures tt in
+    let a = c.in_ok-left.ensures in
+    let b = c.in_ok-right.ensures in
     join as_claim as_claim as_claim (ClaimEnds ts c.args.at) c.args.at _ _ implication a b c.add-node.ensures.more c.add-node.ensures.place (omega arith) (λ us. refl)
     (claim_two ts c.args.at _ _ _ _ a.is n b.is)
 
-pub claim-returns-in-default : goal.claim-returns-in-default
-claim-returns-in-default t c =
-    let a = c.in-ok-left.ensures in
+pub claim-returns-in_default : goal.claim-returns-in_default
+claim-returns-in_default t c =
+    let a = c.in_ok-left.ensures in
     same (ClaimEnds (symbols_of c.args.tokens.now) c.args.at) c.args.at c.args.at a (omega arith)
-    (claim_one (symbols_of c.args.tokens.now) c.args.at _ _ a.is (lacks Arrow _ c.tag.ensures c.in-default.not-Arrow))
+    (claim_one (symbols_of c.args.tokens.now) c.args.at _ _ a.is (lacks Arrow _ c.tag.ensures c.in_default.not-Arrow))
 
 pub single-single-requires : goal.single-single-requires
 single-single-requires t c =
     let n = here (symbols_of c.args.tokens.now) c.args.at Not c.in-Not.ensures tt in
     (omega (arith, n.within, c.decreases), ready_next c.requires n.within)
 
-pub single-returns-in-err-inner : goal.single-returns-in-err-inner
-single-returns-in-err-inner t c =
+pub single-returns-in_err-inner : goal.single-returns-in_err-inner
+single-returns-in_err-inner t c =
     let n = here (symbols_of c.args.tokens.now) c.args.at Not c.in-Not.ensures tt in
-    let p = err_from_is_err_and c.from-residual.result c.from-residual.ensures.1 in
-    rw (p.1, p.2) (faulted (λ k. single_not_fails (symbols_of c.args.tokens.now) c.args.at _ n) c.in-err-inner.ensures)
+    let p = err_from_is_err_and c.from_residual.result c.from_residual.ensures.1 in
+    rw (p.1, p.2) (faulted (λ k. single_not_fails (symbols_of c.args.tokens.now) c.args.at _ n) c.in_err-inner.ensures)
 
 pub single-add-node-requires : goal.single-add-node-requires
 single-add-node-requires t c =
-    let a = c.in-ok-inner.ensures in
-    record { room = room_to c.requires _ c.in-ok-inner.inner.next (omega (arith, a.few)) a.is.within; parts = a.there }
+    let a = c.in_ok-inner.ensures in
+    record { room = room_to c.requires _ c.in_ok-inner.inner.next (omega (arith, a.few)) a.is.within; parts = a.there }
 
-pub single-returns-in-ok-inner : goal.single-returns-in-ok-inner
-single-returns-in-ok-inner t c =
+pub single-returns-in_ok-inner : goal.single-returns-in_ok-inner
+single-returns-in_ok-inner t c =
     let ts = symbols_of c.args.tokens.now in
     let n = here ts c.args.at Not c.in-Not.ensures tt in
-    let a = c.in-ok-inner.ensures in
+    let a = c.in_ok-inner.ensures in
     wrap as_claim as_claim (SingleEnds ts c.args.at) c.args.at _ _ negation a c.add-node.ensures.more c.add-node.ensures.place (omega arith) (λ us. refl)
     (single_not ts c.args.at _ _ n a.is)
 
@@ -177,25 +177,25 @@ single-claim-requires t c =
     let n = here (symbols_of c.args.tokens.now) c.args.at LeftRound c.in-LeftRound.ensures tt in
     (omega (arith, n.within, c.decreases), ready_next c.requires n.within)
 
-pub single-returns-in-err-inner-2 : goal.single-returns-in-err-inner-2
-single-returns-in-err-inner-2 t c =
+pub single-returns-in_err-inner-2 : goal.single-returns-in_err-inner-2
+single-returns-in_err-inner-2 t c =
     let n = here (symbols_of c.args.tokens.now) c.args.at LeftRound c.in-LeftRound.ensures tt in
-    let p = err_from_is_err_and c.from-residual-in-err-inner-2.result c.from-residual-in-err-inner-2.ensures.1 in
-    rw (p.1, p.2) (faulted (λ k. single_inner (symbols_of c.args.tokens.now) c.args.at _ n) c.in-err-inner-2.ensures)
+    let p = err_from_is_err_and c.from_residual-in_err-inner-2.result c.from_residual-in_err-inner-2.ensures.1 in
+    rw (p.1, p.2) (faulted (λ k. single_inner (symbols_of c.args.tokens.now) c.args.at _ n) c.in_err-inner-2.ensures)
 
 pub single-returns-in-RightRound : goal.single-returns-in-RightRound
 single-returns-in-RightRound t c =
     let ts = symbols_of c.args.tokens.now in
     let n = here ts c.args.at LeftRound c.in-LeftRound.ensures tt in
-    let a = c.in-ok-inner-2.ensures in
-    let m = here ts c.in-ok-inner-2.inner.next RightRound c.in-RightRound.ensures tt in
+    let a = c.in_ok-inner-2.ensures in
+    let m = here ts c.in_ok-inner-2.inner.next RightRound c.in-RightRound.ensures tt in
     same (SingleEnds ts c.args.at) c.args.at _ a (omega arith) (single_round ts c.args.at _ _ n a.is m)
 
-pub single-returns-in-default-tag : goal.single-returns-in-default-tag
-single-returns-in-default-tag t c =
+pub single-returns-in_default-tag : goal.single-returns-in_default-tag
+single-returns-in_default-tag t c =
     let ts = symbols_of c.args.tokens.now in
     let n = here ts c.args.at LeftRound c.in-LeftRound.ensures tt in
-    faulted_at _ c.unexpected.ensures (single_unclosed ts c.args.at _ _ n c.in-ok-inner-2.ensures.is (lacks RightRound _ c.tag-in-LeftRound.ensures c.in-default-tag.not-RightRound))
+    faulted_at _ c.unexpected.ensures (single_unclosed ts c.args.at _ _ n c.in_ok-inner-2.ensures.is (lacks RightRound _ c.tag-in-LeftRound.ensures c.in_default-tag.not-RightRound))
 
 pub single-add-node-requires-in-True : goal.single-add-node-requires-in-True
 single-add-node-requires-in-True t c =
@@ -213,29 +213,29 @@ single-name-requires t c =
     let n = here (symbols_of c.args.tokens.now) c.args.at Has c.in-Has.ensures tt in
     inside_to c.requires _ (omega (arith, n.within))
 
-pub single-returns-in-err-name : goal.single-returns-in-err-name
-single-returns-in-err-name t c =
+pub single-returns-in_err-name : goal.single-returns-in_err-name
+single-returns-in_err-name t c =
     let n = here (symbols_of c.args.tokens.now) c.args.at Has c.in-Has.ensures tt in
-    let p = err_from_is_err_and c.from-residual-in-err-name.result c.from-residual-in-err-name.ensures.1 in
-    rw (p.1, p.2) (faulted (λ k. single_has_fails (symbols_of c.args.tokens.now) c.args.at _ n) c.in-err-name.ensures)
+    let p = err_from_is_err_and c.from_residual-in_err-name.result c.from_residual-in_err-name.ensures.1 in
+    rw (p.1, p.2) (faulted (λ k. single_has_fails (symbols_of c.args.tokens.now) c.args.at _ n) c.in_err-name.ensures)
 
 pub single-add-node-requires-in-Has : goal.single-add-node-requires-in-Has
 single-add-node-requires-in-Has t c =
-    let h = name_on (symbols_of c.args.tokens.now) c.in-ok-name.ensures in
-    record { room = room_to c.requires (nodes_of c.args.tree.now) c.in-ok-name.after (omega (arith, h)) h.1; parts = tt }
+    let h = name_on (symbols_of c.args.tokens.now) c.in_ok-name.ensures in
+    record { room = room_to c.requires (nodes_of c.args.tree.now) c.in_ok-name.after (omega (arith, h)) h.1; parts = tt }
 
-pub single-returns-in-ok-name : goal.single-returns-in-ok-name
-single-returns-in-ok-name t c =
+pub single-returns-in_ok-name : goal.single-returns-in_ok-name
+single-returns-in_ok-name t c =
     let ts = symbols_of c.args.tokens.now in
     let n = here ts c.args.at Has c.in-Has.ensures tt in
-    let h = name_on ts c.in-ok-name.ensures in
+    let h = name_on ts c.in_ok-name.ensures in
     leaf as_claim (SingleEnds ts c.args.at) c.args.at _ _ c.add-node-in-Has.ensures.more c.add-node-in-Has.ensures.place (omega (arith, h)) (λ us. refl)
-    (single_has ts c.args.at _ _ n c.in-ok-name.ensures)
+    (single_has ts c.args.at _ _ n c.in_ok-name.ensures)
 
-pub single-returns-in-default : goal.single-returns-in-default
-single-returns-in-default t c =
+pub single-returns-in_default : goal.single-returns-in_default
+single-returns-in_default t c =
     compared c.args.tokens.now c.args.at c.args.tree.now c.comparison.new.tree
-    (lacks Not _ c.tag.ensures c.in-default.not-Not) (lacks LeftRound _ c.tag.ensures c.in-default.not-LeftRound) (lacks True _ c.tag.ensures c.in-default.not-True) (lacks Has _ c.tag.ensures c.in-default.not-Has)
+    (lacks Not _ c.tag.ensures c.in_default.not-Not) (lacks LeftRound _ c.tag.ensures c.in_default.not-LeftRound) (lacks True _ c.tag.ensures c.in_default.not-True) (lacks Has _ c.tag.ensures c.in_default.not-Has)
     c.comparison.result c.comparison.ensures
   where
     compared : (t : Tokens) (at : ℕ) (old new : Tree) → Lacks Not (drop at (symbols_of t)) → Lacks LeftRound (drop at (symbols_of t)) → Lacks True (drop at (symbols_of t)) → Lacks Has (drop at (symbols_of t)) → (r : Result Found Refusal) → ComparisonRead t at old new r → SingleRead t at old new r

@@ -15,21 +15,21 @@ term-requires c =
     let l = lead_on (symbols_of c.args.tokens.now) c.lead-sign.ensures c.requires.inside.within in
     inside_to c.requires _ l.1
 
-pub returns-in-err-term : goal.returns-in-err-term
-returns-in-err-term c =
-    let p = err_from_is_err_and c.from-residual.result c.from-residual.ensures.1 in
-    rw (p.1, p.2) (faulted (λ k. sum_none (symbols_of c.args.tokens.now) c.args.at _ _ _ c.lead-sign.ensures) c.in-err-term.ensures)
+pub returns-in_err-term : goal.returns-in_err-term
+returns-in_err-term c =
+    let p = err_from_is_err_and c.from_residual.result c.from_residual.ensures.1 in
+    rw (p.1, p.2) (faulted (λ k. sum_none (symbols_of c.args.tokens.now) c.args.at _ _ _ c.lead-sign.ensures) c.in_err-term.ensures)
 
 pub add-node-requires : goal.add-node-requires
 add-node-requires c =
     let l = lead_on (symbols_of c.args.tokens.now) c.lead-sign.ensures c.requires.inside.within in
-    let t = c.in-ok-term.ensures in
-    record { room = room_to c.requires (nodes_of c.args.tree.now) c.in-ok-term.after (omega (arith, l, t.on)) t.within; parts = tt }
+    let t = c.in_ok-term.ensures in
+    record { room = room_to c.requires (nodes_of c.args.tree.now) c.in_ok-term.after (omega (arith, l, t.on)) t.within; parts = tt }
 
 pub returns : goal.returns
 returns c =
     let ts = symbols_of c.args.tokens.now in
     let l = lead_on ts c.lead-sign.ensures c.requires.inside.within in
-    let t = c.in-ok-term.ensures in
+    let t = c.in_ok-term.ensures in
     leaf as_sum (SumOf ts c.args.at 1) c.args.at _ _ c.add-node.ensures.more c.add-node.ensures.place (omega (arith, l, t.on)) (λ us. refl)
     (sum_first ts c.args.at _ _ _ _ c.requires.inside.within c.lead-sign.ensures t)

@@ -15,5 +15,5 @@ pub returns-in-Plus : goal.returns-in-Plus
 returns-in-Plus c =
     is_bare (lacks (Additive Minus) _ c.in-Additive.ensures (λ e. let s = c.in-Plus.is in let z : ◌≡◌ {A = ℕ} 0 1 = cc in omega arith))
 
-pub returns-in-default : goal.returns-in-default
-returns-in-default c = is_bare (lacks (Additive Minus) _ c.tag.ensures (c.in-default.not-Additive Minus))
+pub returns-in_default : goal.returns-in_default
+returns-in_default c = is_bare (lacks (Additive Minus) _ c.tag.ensures (c.in_default.not-Additive Minus))

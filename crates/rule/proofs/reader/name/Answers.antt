@@ -11,10 +11,10 @@ returns-in-Quote c =
     let ts = symbols_of c.args.tokens.now in
     name_newest ts c.args.at c.in-FieldName.field (here ts c.args.at (FieldName c.in-FieldName.field) c.in-FieldName.ensures tt) (here ts (c.args.at + 1) Quote c.in-Quote.ensures tt)
 
-pub returns-in-default-tag : goal.returns-in-default-tag
-returns-in-default-tag c =
+pub returns-in_default-tag : goal.returns-in_default-tag
+returns-in_default-tag c =
     let ts = symbols_of c.args.tokens.now in
-    name_plain ts c.args.at c.in-FieldName.field (here ts c.args.at (FieldName c.in-FieldName.field) c.in-FieldName.ensures tt) (lacks Quote _ c.tag-in-FieldName.ensures c.in-default-tag.not-Quote)
+    name_plain ts c.args.at c.in-FieldName.field (here ts c.args.at (FieldName c.in-FieldName.field) c.in-FieldName.ensures tt) (lacks Quote _ c.tag-in-FieldName.ensures c.in_default-tag.not-Quote)
 
-pub returns-in-default : goal.returns-in-default
-returns-in-default c = faulted_at _ c.unexpected.ensures (record { here = refl; none = lacks_all FieldName _ c.tag.ensures c.in-default.not-FieldName })
+pub returns-in_default : goal.returns-in_default
+returns-in_default c = faulted_at _ c.unexpected.ensures (record { here = refl; none = lacks_all FieldName _ c.tag.ensures c.in_default.not-FieldName })

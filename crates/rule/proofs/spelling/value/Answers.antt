@@ -15,14 +15,14 @@ step n m ds i h e = one_more n ds i h ∙ ap (λ (k : ℕ). valued (n * 10 + k) 
 pub loop-i-init : goal.loop-i-init
 loop-i-init c = (refl, omega arith)
 
-pub overflow-mul-sum : goal.overflow-mul-sum
-overflow-mul-sum c =
+pub overflow_mul-sum : goal.overflow_mul-sum
+overflow_mul-sum c =
     let z : c.loop-i.sum * 10 < 2 ^ 64 = omega (arith, c.loop-i.invariant.1) in
     search (rules, z)
 
-pub overflow-add-sum : goal.overflow-add-sum
-overflow-add-sum c =
-    let z : c.loop-i.sum * 10 + c.saturating-sub.result < 2 ^ 64 = omega (arith, c.loop-i.invariant.1, c.saturating-sub.type-inv) in
+pub overflow_add-sum : goal.overflow_add-sum
+overflow_add-sum c =
+    let z : c.loop-i.sum * 10 + c.saturating_sub.result < 2 ^ 64 = omega (arith, c.loop-i.invariant.1, c.saturating_sub.type_inv) in
     search (rules, z)
 
 pub returns-then-sum-gt1000000000 : goal.returns-then-sum-gt1000000000
@@ -31,18 +31,18 @@ returns-then-sum-gt1000000000 c =
     omega (
       arith,
       c.loop-i.invariant.0,
-      step c.loop-i.sum c.saturating-sub.result ds c.loop-i.i c.loop-i-test.true c.saturating-sub.ensures,
-      grows (c.loop-i.sum * 10 + c.saturating-sub.result) (drop (c.loop-i.i + 1) ds),
+      step c.loop-i.sum c.saturating_sub.result ds c.loop-i.i c.loop-i-test.true c.saturating_sub.ensures,
+      grows (c.loop-i.sum * 10 + c.saturating_sub.result) (drop (c.loop-i.i + 1) ds),
       c.if-sum-gt1000000000.true,
     )
 
 pub loop-i-preserved : goal.loop-i-preserved
 loop-i-preserved c =
     let ds = c.args.digits.now in
-    (sym (step c.loop-i.sum c.saturating-sub.result ds c.loop-i.i c.loop-i-test.true c.saturating-sub.ensures) ∙ c.loop-i.invariant.0, c.if-sum-gt1000000000.false)
+    (sym (step c.loop-i.sum c.saturating_sub.result ds c.loop-i.i c.loop-i-test.true c.saturating_sub.ensures) ∙ c.loop-i.invariant.0, c.if-sum-gt1000000000.false)
 
-pub overflow-cast-result : goal.overflow-cast-result
-overflow-cast-result c =
+pub overflow_cast-result : goal.overflow_cast-result
+overflow_cast-result c =
     let z : c.loop-i.sum < 2 ^ 32 = omega (arith, c.loop-i.invariant.1) in
     search (rules, z)
 

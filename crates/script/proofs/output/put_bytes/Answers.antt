@@ -6,7 +6,7 @@ pub loop-byte-init : goal.loop-byte-init
 loop-byte-init c = remains_all
 
 pub loop-byte-preserved : goal.loop-byte-preserved
-loop-byte-preserved c = remains_less (drop_more c.args.text.now c.loop-byte.byte-index 0 c.loop-byte-test.true) c.loop-byte.invariant c.put-byte-next.ensures
+loop-byte-preserved c = remains_less (drop_more c.args.text.now c.loop-byte.byte-index 0 c.loop-byte-test.true) c.loop-byte.invariant c.put_byte-next.ensures
 
 pub returns : goal.returns
 returns c = remains_none (drop_all _ c.args.text.now c.loop-byte-test.false) c.loop-byte.invariant

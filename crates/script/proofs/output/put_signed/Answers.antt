@@ -15,11 +15,11 @@ above (negsuc n) h = absurd h.le
 pub returns-then-z-lt0 : goal.returns-then-z-lt0
 returns-then-z-lt0 c =
     let low : c.args.z <ℤ pos 0 = search rules in
-    let size : c.unsigned-abs.result ≡ nat_abs c.args.z = search rules in
-    wrote_same (ap (λ n. 45 ∷ decimal n) size ∙ below c.args.z low) (wrote_then c.put-byte-next.ensures c.put-number.ensures)
+    let size : c.unsigned_abs.result ≡ nat_abs c.args.z = search rules in
+    wrote_same (ap (λ n. 45 ∷ decimal n) size ∙ below c.args.z low) (wrote_then c.put_byte-next.ensures c.put_number.ensures)
 
 pub returns : goal.returns
 returns c =
     let high : pos 0 ≤ℤ c.args.z = search rules in
-    let size : c.unsigned-abs-2.result ≡ nat_abs c.args.z = search rules in
-    wrote_same (ap decimal size ∙ above c.args.z high) c.put-number-2.ensures
+    let size : c.unsigned_abs-2.result ≡ nat_abs c.args.z = search rules in
+    wrote_same (ap decimal size ∙ above c.args.z high) c.put_number-2.ensures

@@ -11,7 +11,7 @@ pub loop-reply-init : goal.loop-reply-init
 loop-reply-init c = remains_all
 
 pub loop-reply-preserved : goal.loop-reply-preserved
-loop-reply-preserved c = remains_less (at_drop_more (λ xs. columns_text (map message xs)) c.args.shown.now c.loop-reply.reply-index (ToGive Taken) c.loop-reply-test.true) c.loop-reply.invariant c.put-column-next.ensures
+loop-reply-preserved c = remains_less (at_drop_more (λ xs. columns_text (map message xs)) c.args.shown.now c.loop-reply.reply-index (ToGive Taken) c.loop-reply-test.true) c.loop-reply.invariant c.put_column-next.ensures
 
 pub returns : goal.returns
 returns c = remains_none (at_drop_all (λ xs. columns_text (map message xs)) c.args.shown.now _ c.loop-reply-test.false) c.loop-reply.invariant

@@ -10,4 +10,4 @@ returns-then-number-ne0 c = wrote_same (ap (λ b. cond b (spaced c.args.row ++ c
 pub returns : goal.returns
 returns c =
     wrote_same (ap (λ b. cond b (spaced c.args.row ++ columns_text (map message c.args.shown.now)) []) (sym (eq-eqb c.args.number 0 c.if-number-ne0.false)))
-    (wrote_then c.put-spaced-next.ensures c.put-columns.ensures)
+    (wrote_then c.put_spaced-next.ensures c.put_columns.ensures)

@@ -3,5 +3,5 @@ use Rattle.script.proofs.text.put_rule_refusal.Goals as goal
 
 pub returns : goal.returns
 returns c =
-    wrote_then c.put-rule-word-after-word.ensures
-    (wrote_then c.put-spaced-after-line.ensures (wrote_then c.put-spaced-after-number.ensures (wrote_then c.put-spaced-after-place.ensures c.put-byte.ensures)))
+    wrote_then c.put_rule_word-after_word.ensures
+    (wrote_then c.put_spaced-after_line.ensures (wrote_then c.put_spaced-after_number.ensures (wrote_then c.put_spaced-after_place.ensures c.put_byte.ensures)))

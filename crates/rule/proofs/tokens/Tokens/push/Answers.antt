@@ -6,8 +6,8 @@ use Rattle.rule.specs.Stored.{spots_of}
 use Rattle.rule.proofs.Spotted.{real_push}
 use Rattle.rule.proofs.tokens.Tokens.push.Goals as goal
 
-pub invariant-of-self : goal.invariant-of-self
-invariant-of-self c =
+pub invariant_of-self : goal.invariant_of-self
+invariant_of-self c =
     let t = c.args.self.now in
     let s = spot c.args.tag c.args.place in
     let more = take_more_set t.spots t.len s (omega (arith, t.room, c.if-self-lt501.true)) in

@@ -5,8 +5,8 @@ use Rattle.rule.proofs.Nodes.{pushed}
 use Rattle.rule.proofs.Things.{summaries_push}
 use Rattle.rule.proofs.tree.Tree.add.Goals as goal
 
-pub invariant-of-self : goal.invariant-of-self
-invariant-of-self c =
+pub invariant_of-self : goal.invariant_of-self
+invariant_of-self c =
     let a = c.args.self.now in
     let n = c.args.node in
     let s = c.summarize-summary.result in
