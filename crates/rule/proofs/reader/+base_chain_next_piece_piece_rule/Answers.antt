@@ -158,49 +158,49 @@ base-rule-requires t c =
     let n = here (symbols_of c.args.tokens.now) c.args.at LeftRound c.in-LeftRound.ensures tt in
     (omega (arith, n.within, c.decreases), ready_next c.requires n.within)
 
-pub base-returns-in_err-inner : goal.base-returns-in_err-inner
-base-returns-in_err-inner t c =
+pub base-returns-in_err-inner-in-LeftRound : goal.base-returns-in_err-inner-in-LeftRound
+base-returns-in_err-inner-in-LeftRound t c =
     let n = here (symbols_of c.args.tokens.now) c.args.at LeftRound c.in-LeftRound.ensures tt in
     let p = err_from_is_err_and c.from_residual.result c.from_residual.ensures.1 in
-    rw (p.1, p.2) (faulted (λ k. base_inner (symbols_of c.args.tokens.now) c.args.at _ n) c.in_err-inner.ensures)
+    rw (p.1, p.2) (faulted (λ k. base_inner (symbols_of c.args.tokens.now) c.args.at _ n) c.in_err-inner-in-LeftRound.ensures)
 
 pub base-returns-in-RightRound : goal.base-returns-in-RightRound
 base-returns-in-RightRound t c =
     let ts = symbols_of c.args.tokens.now in
     let n = here ts c.args.at LeftRound c.in-LeftRound.ensures tt in
-    let a = c.in_ok-inner.ensures in
-    let m = here ts c.in_ok-inner.inner.next RightRound c.in-RightRound.ensures tt in
+    let a = c.in_ok-inner-in-LeftRound.ensures in
+    let m = here ts c.in_ok-inner-in-LeftRound.inner.next RightRound c.in-RightRound.ensures tt in
     same (BaseEnds ts c.args.at) c.args.at _ a (omega arith) (base_round ts c.args.at _ _ n a.is m)
 
 pub base-returns-in_default-tag : goal.base-returns-in_default-tag
 base-returns-in_default-tag t c =
     let ts = symbols_of c.args.tokens.now in
     let n = here ts c.args.at LeftRound c.in-LeftRound.ensures tt in
-    faulted_at _ c.unexpected.ensures (base_unclosed ts c.args.at _ _ n c.in_ok-inner.ensures.is (lacks RightRound _ c.tag-in-LeftRound.ensures c.in_default-tag.not-RightRound))
+    faulted_at _ c.unexpected.ensures (base_unclosed ts c.args.at _ _ n c.in_ok-inner-in-LeftRound.ensures.is (lacks RightRound _ c.tag-in-LeftRound.ensures c.in_default-tag.not-RightRound))
 
 pub base-claim-requires : goal.base-claim-requires
 base-claim-requires t c =
     let n = here (symbols_of c.args.tokens.now) c.args.at LeftSquare c.in-LeftSquare.ensures tt in
     ready_next c.requires n.within
 
-pub base-returns-in_err-inner-2 : goal.base-returns-in_err-inner-2
-base-returns-in_err-inner-2 t c =
+pub base-returns-in_err-inner-in-LeftSquare : goal.base-returns-in_err-inner-in-LeftSquare
+base-returns-in_err-inner-in-LeftSquare t c =
     let n = here (symbols_of c.args.tokens.now) c.args.at LeftSquare c.in-LeftSquare.ensures tt in
-    let f = c.in_err-inner-2.ensures in
-    let p = err_from_is_err_and c.from_residual-in_err-inner-2.result c.from_residual-in_err-inner-2.ensures.1 in
+    let f = c.in_err-inner-in-LeftSquare.ensures in
+    let p = err_from_is_err_and c.from_residual-in_err-inner-in-LeftSquare.result c.from_residual-in_err-inner-in-LeftSquare.ensures.1 in
     rw (p.1, p.2) (faulted (λ k g. base_unsquare (symbols_of c.args.tokens.now) c.args.at k n g.within (g.runs [])) f)
 
 pub base-add-node-requires-in-RightSquare : goal.base-add-node-requires-in-RightSquare
 base-add-node-requires-in-RightSquare t c =
-    let a = c.in_ok-inner-2.ensures in
-    record { room = room_to c.requires _ c.in_ok-inner-2.inner.next (omega (arith, a.few)) a.is.within; parts = a.there }
+    let a = c.in_ok-inner-in-LeftSquare.ensures in
+    record { room = room_to c.requires _ c.in_ok-inner-in-LeftSquare.inner.next (omega (arith, a.few)) a.is.within; parts = a.there }
 
 pub base-returns-in-RightSquare : goal.base-returns-in-RightSquare
 base-returns-in-RightSquare t c =
     let ts = symbols_of c.args.tokens.now in
     let n = here ts c.args.at LeftSquare c.in-LeftSquare.ensures tt in
-    let a = c.in_ok-inner-2.ensures in
-    let m = here ts c.in_ok-inner-2.inner.next RightSquare c.in-RightSquare.ensures tt in
+    let a = c.in_ok-inner-in-LeftSquare.ensures in
+    let m = here ts c.in_ok-inner-in-LeftSquare.inner.next RightSquare c.in-RightSquare.ensures tt in
     wrap as_claim as_pattern (BaseEnds ts c.args.at) c.args.at _ _ claim_pattern a c.add-node-in-RightSquare.ensures.more c.add-node-in-RightSquare.ensures.place (omega arith) (λ us. refl)
     (base_square ts c.args.at _ _ n (omega (arith, a.is.on)) (omega (arith, m.within)) (claim_closed ts _ _ _ a.is m))
 
@@ -208,7 +208,7 @@ pub base-returns-in_default-tag-2 : goal.base-returns-in_default-tag-2
 base-returns-in_default-tag-2 t c =
     let ts = symbols_of c.args.tokens.now in
     let n = here ts c.args.at LeftSquare c.in-LeftSquare.ensures tt in
-    let a = c.in_ok-inner-2.ensures in
+    let a = c.in_ok-inner-in-LeftSquare.ensures in
     faulted_at _ c.unexpected-in_default-tag-2.ensures (base_unsquare ts c.args.at _ n a.is.within (claim_cut ts _ _ _ a.is (lacks RightSquare _ c.tag-in-LeftSquare.ensures c.in_default-tag-2.not-RightSquare)))
 
 pub base-returns-in_default : goal.base-returns-in_default

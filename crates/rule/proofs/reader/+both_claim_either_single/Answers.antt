@@ -121,24 +121,24 @@ claim-either-requires-in-Arrow t c =
     let n = here (symbols_of c.args.tokens.now) c.in_ok-left.left.next Arrow c.in-Arrow.ensures tt in
     (omega (arith, n.within, c.decreases, a.is.so_far.on), ready_to c.requires c.either.new.tree _ a.few n.within)
 
-pub claim-returns-in_err-right : goal.claim-returns-in_err-right
-claim-returns-in_err-right t c =
+pub claim-returns-in_err-right-in-Arrow : goal.claim-returns-in_err-right-in-Arrow
+claim-returns-in_err-right-in-Arrow t c =
     let n = here (symbols_of c.args.tokens.now) c.in_ok-left.left.next Arrow c.in-Arrow.ensures tt in
-    let p = err_from_is_err_and c.from_residual-in_err-right.result c.from_residual-in_err-right.ensures.1 in
-    rw (p.1, p.2) (faulted (λ k. claim_second (symbols_of c.args.tokens.now) c.args.at c.in_ok-left.left.next _ _ c.in_ok-left.ensures.is n) c.in_err-right.ensures)
+    let p = err_from_is_err_and c.from_residual-in_err-right-in-Arrow.result c.from_residual-in_err-right-in-Arrow.ensures.1 in
+    rw (p.1, p.2) (faulted (λ k. claim_second (symbols_of c.args.tokens.now) c.args.at c.in_ok-left.left.next _ _ c.in_ok-left.ensures.is n) c.in_err-right-in-Arrow.ensures)
 
 pub claim-add-node-requires : goal.claim-add-node-requires
 claim-add-node-requires t c =
     let a = c.in_ok-left.ensures in
-    let b = c.in_ok-right.ensures in
-    record { room = room_to c.requires _ c.in_ok-right.right.next (omega (arith, a.few, b.few)) b.is.so_far.within; parts = (later b _ a.there, b.there) }
+    let b = c.in_ok-right-in-Arrow.ensures in
+    record { room = room_to c.requires _ c.in_ok-right-in-Arrow.right.next (omega (arith, a.few, b.few)) b.is.so_far.within; parts = (later b _ a.there, b.there) }
 
-pub claim-returns-in_ok-right : goal.claim-returns-in_ok-right
-claim-returns-in_ok-right t c =
+pub claim-returns-in_ok-right-in-Arrow : goal.claim-returns-in_ok-right-in-Arrow
+claim-returns-in_ok-right-in-Arrow t c =
     let ts = symbols_of c.args.tokens.now in
     let n = here ts c.in_ok-left.left.next Arrow c.in-Arrow.ensures tt in
     let a = c.in_ok-left.ensures in
-    let b = c.in_ok-right.ensures in
+    let b = c.in_ok-right-in-Arrow.ensures in
     join as_claim as_claim as_claim (ClaimEnds ts c.args.at) c.args.at _ _ implication a b c.add-node.ensures.more c.add-node.ensures.place (omega arith) (λ us. refl)
     (claim_two ts c.args.at _ _ _ _ a.is n b.is)
 
@@ -153,22 +153,22 @@ single-single-requires t c =
     let n = here (symbols_of c.args.tokens.now) c.args.at Not c.in-Not.ensures tt in
     (omega (arith, n.within, c.decreases), ready_next c.requires n.within)
 
-pub single-returns-in_err-inner : goal.single-returns-in_err-inner
-single-returns-in_err-inner t c =
+pub single-returns-in_err-inner-in-Not : goal.single-returns-in_err-inner-in-Not
+single-returns-in_err-inner-in-Not t c =
     let n = here (symbols_of c.args.tokens.now) c.args.at Not c.in-Not.ensures tt in
     let p = err_from_is_err_and c.from_residual.result c.from_residual.ensures.1 in
-    rw (p.1, p.2) (faulted (λ k. single_not_fails (symbols_of c.args.tokens.now) c.args.at _ n) c.in_err-inner.ensures)
+    rw (p.1, p.2) (faulted (λ k. single_not_fails (symbols_of c.args.tokens.now) c.args.at _ n) c.in_err-inner-in-Not.ensures)
 
 pub single-add-node-requires : goal.single-add-node-requires
 single-add-node-requires t c =
-    let a = c.in_ok-inner.ensures in
-    record { room = room_to c.requires _ c.in_ok-inner.inner.next (omega (arith, a.few)) a.is.within; parts = a.there }
+    let a = c.in_ok-inner-in-Not.ensures in
+    record { room = room_to c.requires _ c.in_ok-inner-in-Not.inner.next (omega (arith, a.few)) a.is.within; parts = a.there }
 
-pub single-returns-in_ok-inner : goal.single-returns-in_ok-inner
-single-returns-in_ok-inner t c =
+pub single-returns-in_ok-inner-in-Not : goal.single-returns-in_ok-inner-in-Not
+single-returns-in_ok-inner-in-Not t c =
     let ts = symbols_of c.args.tokens.now in
     let n = here ts c.args.at Not c.in-Not.ensures tt in
-    let a = c.in_ok-inner.ensures in
+    let a = c.in_ok-inner-in-Not.ensures in
     wrap as_claim as_claim (SingleEnds ts c.args.at) c.args.at _ _ negation a c.add-node.ensures.more c.add-node.ensures.place (omega arith) (λ us. refl)
     (single_not ts c.args.at _ _ n a.is)
 
@@ -177,25 +177,25 @@ single-claim-requires t c =
     let n = here (symbols_of c.args.tokens.now) c.args.at LeftRound c.in-LeftRound.ensures tt in
     (omega (arith, n.within, c.decreases), ready_next c.requires n.within)
 
-pub single-returns-in_err-inner-2 : goal.single-returns-in_err-inner-2
-single-returns-in_err-inner-2 t c =
+pub single-returns-in_err-inner-in-LeftRound : goal.single-returns-in_err-inner-in-LeftRound
+single-returns-in_err-inner-in-LeftRound t c =
     let n = here (symbols_of c.args.tokens.now) c.args.at LeftRound c.in-LeftRound.ensures tt in
-    let p = err_from_is_err_and c.from_residual-in_err-inner-2.result c.from_residual-in_err-inner-2.ensures.1 in
-    rw (p.1, p.2) (faulted (λ k. single_inner (symbols_of c.args.tokens.now) c.args.at _ n) c.in_err-inner-2.ensures)
+    let p = err_from_is_err_and c.from_residual-in_err-inner-in-LeftRound.result c.from_residual-in_err-inner-in-LeftRound.ensures.1 in
+    rw (p.1, p.2) (faulted (λ k. single_inner (symbols_of c.args.tokens.now) c.args.at _ n) c.in_err-inner-in-LeftRound.ensures)
 
 pub single-returns-in-RightRound : goal.single-returns-in-RightRound
 single-returns-in-RightRound t c =
     let ts = symbols_of c.args.tokens.now in
     let n = here ts c.args.at LeftRound c.in-LeftRound.ensures tt in
-    let a = c.in_ok-inner-2.ensures in
-    let m = here ts c.in_ok-inner-2.inner.next RightRound c.in-RightRound.ensures tt in
+    let a = c.in_ok-inner-in-LeftRound.ensures in
+    let m = here ts c.in_ok-inner-in-LeftRound.inner.next RightRound c.in-RightRound.ensures tt in
     same (SingleEnds ts c.args.at) c.args.at _ a (omega arith) (single_round ts c.args.at _ _ n a.is m)
 
 pub single-returns-in_default-tag : goal.single-returns-in_default-tag
 single-returns-in_default-tag t c =
     let ts = symbols_of c.args.tokens.now in
     let n = here ts c.args.at LeftRound c.in-LeftRound.ensures tt in
-    faulted_at _ c.unexpected.ensures (single_unclosed ts c.args.at _ _ n c.in_ok-inner-2.ensures.is (lacks RightRound _ c.tag-in-LeftRound.ensures c.in_default-tag.not-RightRound))
+    faulted_at _ c.unexpected.ensures (single_unclosed ts c.args.at _ _ n c.in_ok-inner-in-LeftRound.ensures.is (lacks RightRound _ c.tag-in-LeftRound.ensures c.in_default-tag.not-RightRound))
 
 pub single-add-node-requires-in-True : goal.single-add-node-requires-in-True
 single-add-node-requires-in-True t c =
@@ -213,24 +213,24 @@ single-name-requires t c =
     let n = here (symbols_of c.args.tokens.now) c.args.at Has c.in-Has.ensures tt in
     inside_to c.requires _ (omega (arith, n.within))
 
-pub single-returns-in_err-name : goal.single-returns-in_err-name
-single-returns-in_err-name t c =
+pub single-returns-in_err-name-in-Has : goal.single-returns-in_err-name-in-Has
+single-returns-in_err-name-in-Has t c =
     let n = here (symbols_of c.args.tokens.now) c.args.at Has c.in-Has.ensures tt in
-    let p = err_from_is_err_and c.from_residual-in_err-name.result c.from_residual-in_err-name.ensures.1 in
-    rw (p.1, p.2) (faulted (λ k. single_has_fails (symbols_of c.args.tokens.now) c.args.at _ n) c.in_err-name.ensures)
+    let p = err_from_is_err_and c.from_residual-in_err-name-in-Has.result c.from_residual-in_err-name-in-Has.ensures.1 in
+    rw (p.1, p.2) (faulted (λ k. single_has_fails (symbols_of c.args.tokens.now) c.args.at _ n) c.in_err-name-in-Has.ensures)
 
 pub single-add-node-requires-in-Has : goal.single-add-node-requires-in-Has
 single-add-node-requires-in-Has t c =
-    let h = name_on (symbols_of c.args.tokens.now) c.in_ok-name.ensures in
-    record { room = room_to c.requires (nodes_of c.args.tree.now) c.in_ok-name.after (omega (arith, h)) h.1; parts = tt }
+    let h = name_on (symbols_of c.args.tokens.now) c.in_ok-name-in-Has.ensures in
+    record { room = room_to c.requires (nodes_of c.args.tree.now) c.in_ok-name-in-Has.after (omega (arith, h)) h.1; parts = tt }
 
-pub single-returns-in_ok-name : goal.single-returns-in_ok-name
-single-returns-in_ok-name t c =
+pub single-returns-in_ok-name-in-Has : goal.single-returns-in_ok-name-in-Has
+single-returns-in_ok-name-in-Has t c =
     let ts = symbols_of c.args.tokens.now in
     let n = here ts c.args.at Has c.in-Has.ensures tt in
-    let h = name_on ts c.in_ok-name.ensures in
+    let h = name_on ts c.in_ok-name-in-Has.ensures in
     leaf as_claim (SingleEnds ts c.args.at) c.args.at _ _ c.add-node-in-Has.ensures.more c.add-node-in-Has.ensures.place (omega (arith, h)) (λ us. refl)
-    (single_has ts c.args.at _ _ n c.in_ok-name.ensures)
+    (single_has ts c.args.at _ _ n c.in_ok-name-in-Has.ensures)
 
 pub single-returns-in_default : goal.single-returns-in_default
 single-returns-in_default t c =

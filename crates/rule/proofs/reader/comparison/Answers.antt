@@ -17,24 +17,24 @@ sum-requires-in-Relational c =
     let n = here (symbols_of c.args.tokens.now) c.in_ok-left.left.next (Relational c.in-Relational.relation) c.in-Relational.ensures tt in
     ready_to c.requires c.sum.new.tree _ c.in_ok-left.ensures.few n.within
 
-pub returns-in_err-right : goal.returns-in_err-right
-returns-in_err-right c =
+pub returns-in_err-right-in-Relational : goal.returns-in_err-right-in-Relational
+returns-in_err-right-in-Relational c =
     let n = here (symbols_of c.args.tokens.now) c.in_ok-left.left.next (Relational c.in-Relational.relation) c.in-Relational.ensures tt in
-    let p = err_from_is_err_and c.from_residual-in_err-right.result c.from_residual-in_err-right.ensures.1 in
-    rw (p.1, p.2) (faulted (λ k. comparison_right (symbols_of c.args.tokens.now) c.args.at c.in_ok-left.left.next _ _ _ c.in_ok-left.ensures.is n) c.in_err-right.ensures)
+    let p = err_from_is_err_and c.from_residual-in_err-right-in-Relational.result c.from_residual-in_err-right-in-Relational.ensures.1 in
+    rw (p.1, p.2) (faulted (λ k. comparison_right (symbols_of c.args.tokens.now) c.args.at c.in_ok-left.left.next _ _ _ c.in_ok-left.ensures.is n) c.in_err-right-in-Relational.ensures)
 
 pub add-node-requires : goal.add-node-requires
 add-node-requires c =
     let a = c.in_ok-left.ensures in
-    let b = c.in_ok-right.ensures in
-    record { room = room_to c.requires _ c.in_ok-right.right.next (omega (arith, a.few, b.few)) b.is.so_far.within; parts = (later b _ a.there, b.there) }
+    let b = c.in_ok-right-in-Relational.ensures in
+    record { room = room_to c.requires _ c.in_ok-right-in-Relational.right.next (omega (arith, a.few, b.few)) b.is.so_far.within; parts = (later b _ a.there, b.there) }
 
-pub returns-in_ok-right : goal.returns-in_ok-right
-returns-in_ok-right c =
+pub returns-in_ok-right-in-Relational : goal.returns-in_ok-right-in-Relational
+returns-in_ok-right-in-Relational c =
     let ts = symbols_of c.args.tokens.now in
     let n = here ts c.in_ok-left.left.next (Relational c.in-Relational.relation) c.in-Relational.ensures tt in
     let a = c.in_ok-left.ensures in
-    let b = c.in_ok-right.ensures in
+    let b = c.in_ok-right-in-Relational.ensures in
     join as_sum as_sum as_claim (ComparisonEnds ts c.args.at) c.args.at _ _ (comparison c.in-Relational.relation) a b c.add-node.ensures.more c.add-node.ensures.place (omega arith) (λ us. refl)
     (comparison_done ts c.args.at _ _ c.in-Relational.relation _ _ a.is n b.is)
 

@@ -27,26 +27,26 @@ term-requires c =
     let n = here (symbols_of c.args.tokens.now) c.loop-sign.left.next (Additive c.in-Additive.sign) c.in-Additive.ensures tt in
     inside_to c.requires _ (omega (arith, n.within))
 
-pub returns-in_err-term : goal.returns-in_err-term
-returns-in_err-term c =
+pub returns-in_err-term-in-Additive : goal.returns-in_err-term-in-Additive
+returns-in_err-term-in-Additive c =
     let m = c.loop-sign.invariant _ _ c.in_ok-left.ensures in
     let n = here (symbols_of c.args.tokens.now) c.loop-sign.left.next (Additive c.in-Additive.sign) c.in-Additive.ensures tt in
-    let p = err_from_is_err_and c.from_residual-in_err-term.result c.from_residual-in_err-term.ensures.1 in
-    rw (p.1, p.2) (faulted (λ k. sum_more_fails (symbols_of c.args.tokens.now) c.args.at c.loop-sign.left.next _ c.loop-sign.count _ _ m.is (is_over _ _ c.loop-sign-test.ensures) n) c.in_err-term.ensures)
+    let p = err_from_is_err_and c.from_residual-in_err-term-in-Additive.result c.from_residual-in_err-term-in-Additive.ensures.1 in
+    rw (p.1, p.2) (faulted (λ k. sum_more_fails (symbols_of c.args.tokens.now) c.args.at c.loop-sign.left.next _ c.loop-sign.count _ _ m.is (is_over _ _ c.loop-sign-test.ensures) n) c.in_err-term-in-Additive.ensures)
 
 pub add-node-requires : goal.add-node-requires
 add-node-requires c =
     let m = c.loop-sign.invariant _ _ c.in_ok-left.ensures in
-    let t = c.in_ok-term.ensures in
-    record { room = room_to c.requires _ c.in_ok-term.after (omega (arith, m.few, t.on)) t.within; parts = m.there }
+    let t = c.in_ok-term-in-Additive.ensures in
+    record { room = room_to c.requires _ c.in_ok-term-in-Additive.after (omega (arith, m.few, t.on)) t.within; parts = m.there }
 
 pub loop-sign-preserved : goal.loop-sign-preserved
 loop-sign-preserved c = λ old at b.
     let ts = symbols_of c.args.tokens.now in
     let m = c.loop-sign.invariant old at b in
     let n = here ts c.loop-sign.left.next (Additive c.in-Additive.sign) c.in-Additive.ensures tt in
-    let t = c.in_ok-term.ensures in
-    wrap as_sum as_sum (SumOf ts at (c.loop-sign.count + 1)) at at _ (λ x. more x c.in-Additive.sign c.in_ok-term.term) m c.add-node.ensures.more c.add-node.ensures.place (omega (arith, t.on)) (λ us. refl)
+    let t = c.in_ok-term-in-Additive.ensures in
+    wrap as_sum as_sum (SumOf ts at (c.loop-sign.count + 1)) at at _ (λ x. more x c.in-Additive.sign c.in_ok-term-in-Additive.term) m c.add-node.ensures.more c.add-node.ensures.place (omega (arith, t.on)) (λ us. refl)
     (sum_more ts at _ _ _ _ _ _ m.is (is_over _ _ c.loop-sign-test.ensures) n t)
 
 pub returns-in_default : goal.returns-in_default

@@ -91,7 +91,7 @@ invariant_of-result c =
     let long = length-map (spots_of t) (symbol_at t.text.now) in
     let v = numbered_within c.in_ok-watch.watch e w in
     let r = c.in_ok-root.ensures in
-    (v.0, (v.1, (r.there, (omega (arith, c.len.ensures, long, f), (k.0 ∙ rule_claims r.derived, (k.1, tt))))))
+    record { least = v.0; most = v.1; rooted = r.there; few = omega (arith, c.len.ensures, long, f); counted = k.0 ∙ rule_claims r.derived; limited = k.1 }
 
 pub returns : goal.returns
 returns c =

@@ -11,7 +11,7 @@ invariant_of-self c =
     let t = c.args.self.now in
     let s = spot c.args.tag c.args.place in
     let more = take_more_set t.spots t.len s (omega (arith, t.room, c.if-self-lt501.true)) in
-    (simp length-set t.room, (omega (arith, c.if-self-lt501.true), (subst (λ l. all_real l ≡ true) (sym more) (real_push (spots_of t) s t.real c.requires), tt)))
+    record { room = simp length-set t.room; few = omega (arith, c.if-self-lt501.true); real = subst (λ l. all_real l ≡ true) (sym more) (real_push (spots_of t) s t.real c.requires) }
 
 pub returns-then-self-lt501 : goal.returns-then-self-lt501
 returns-then-self-lt501 c =

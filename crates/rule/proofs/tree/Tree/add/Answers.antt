@@ -17,7 +17,7 @@ invariant_of-self c =
     take_more_set a.summaries a.len s (omega (arith, a.spare, inside, a.room))
     ∙ (λ i. a.summed i ++ c.summarize-summary.ensures i ∷ [])
     ∙ sym (summaries_push (take a.len a.nodes) _ n more) in
-    (simp length-set a.room, (simp length-set a.spare, (omega (arith, c.requires.room), (pushed (take a.len a.nodes) _ n more a.down c.requires.parts, (summed, tt)))))
+    record { room = simp length-set a.room; spare = simp length-set a.spare; few = omega (arith, c.requires.room); down = pushed (take a.len a.nodes) _ n more a.down c.requires.parts; summed = summed }
 
 pub returns : goal.returns
 returns c =

@@ -14,4 +14,4 @@ pub returns-else-n-self : goal.returns-else-n-self
 returns-else-n-self c =
     let t = c.args.self.now in
     let long = length-take-le t.len t.nodes (omega (arith, t.room, t.few)) in
-    c.summary_of_empty.ensures ∙ sym (ap (λ x. summary (as_pattern x)) (thing_past (take t.len t.nodes) c.args.n (omega (arith, long, c.if-n-self.false))))
+    c.of_empty.ensures ∙ sym (ap (λ x. summary (as_pattern x)) (thing_past (take t.len t.nodes) c.args.n (omega (arith, long, c.if-n-self.false))))
