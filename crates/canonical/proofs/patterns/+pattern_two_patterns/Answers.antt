@@ -4,26 +4,26 @@ use Rattle.canonical.specs.Text.{pattern_text}
 use Rattle.canonical.proofs.Writing.{next, known}
 use Rattle.canonical.proofs.patterns.+pattern_two_patterns.Goals as goal
 
-pub pattern-returns-in-ok-claim : goal.pattern-returns-in-ok-claim
-pattern-returns-in-ok-claim g t c = λ plain ok.
-    let x = c.in-ok-write-str.ensures.writes plain refl in
-    let y = c.in-ok-claim.ensures x.plain refl in
-    let z = c.write-str-in-Claim.ensures.writes y.plain ok in
+pub pattern-returns-in_ok-claim : goal.pattern-returns-in_ok-claim
+pattern-returns-in_ok-claim g t c = λ plain ok.
+    let x = c.in_ok-write_str.ensures.writes plain refl in
+    let y = c.in_ok-claim.ensures x.plain refl in
+    let z = c.write_str-in-Claim.ensures.writes y.plain ok in
     let e = sym (ap (λ u. pattern_text (as_pattern u)) c.in-Claim.ensures.meaning) in
     known e (next x (next y z))
 
-pub pattern-returns-in-ok-pattern : goal.pattern-returns-in-ok-pattern
-pattern-returns-in-ok-pattern g t c = λ plain ok.
-    let x = c.in-ok-pattern.ensures plain refl in
-    let y = c.write-str-in-Star.ensures.writes x.plain ok in
+pub pattern-returns-in_ok-pattern : goal.pattern-returns-in_ok-pattern
+pattern-returns-in_ok-pattern g t c = λ plain ok.
+    let x = c.in_ok-pattern.ensures plain refl in
+    let y = c.write_str-in-Star.ensures.writes x.plain ok in
     let e = sym (ap (λ u. pattern_text (as_pattern u)) c.in-Star.ensures.meaning) in
     known e (next x y)
 
-pub two-patterns-returns : goal.two-patterns-returns
-two-patterns-returns g t c = λ plain ok.
-    let x = c.in-ok-write-str.ensures.writes plain refl in
-    let y = c.in-ok-pattern.ensures x.plain refl in
-    let z = c.in-ok-write-str-2.ensures.writes y.plain refl in
-    let w = c.in-ok-pattern-2.ensures z.plain refl in
-    let v = c.write-str-3.ensures.writes w.plain ok in
+pub two_patterns-returns : goal.two_patterns-returns
+two_patterns-returns g t c = λ plain ok.
+    let x = c.in_ok-write_str.ensures.writes plain refl in
+    let y = c.in_ok-pattern.ensures x.plain refl in
+    let z = c.in_ok-write_str-2.ensures.writes y.plain refl in
+    let w = c.in_ok-pattern-2.ensures z.plain refl in
+    let v = c.write_str-3.ensures.writes w.plain ok in
     next x (next y (next z (next w v)))

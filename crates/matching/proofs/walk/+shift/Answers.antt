@@ -7,8 +7,8 @@ use Rattle.matching.specs.Marks.{meets}
 use Rattle.matching.proofs.Shifts.{parts_within, step_alternative, step_sequence, step_star}
 use Rattle.matching.proofs.walk.+shift.Goals as goal
 
-pub overflow-add-before : goal.overflow-add-before
-overflow-add-before t c =
+pub overflow_add-before : goal.overflow_add-before
+overflow_add-before t c =
     let u = c.args.rule.now in
     let e = ap as_pattern c.in-Alternative.ensures.meaning in
     let w = parts_within u c.args.n c.in-Alternative.a c.in-Alternative.b c.args.others c.requires (ap claims_in e) _ (ap (λ (s : Summary). s.claims) c.summary.ensures) in
@@ -30,8 +30,8 @@ returns-in-Alternative t c =
     step_alternative u c.args.n c.args.others c.args.entering c.args.marks c.args.newest.now c.args.row.now
     c.in-Alternative.a c.in-Alternative.b _ _ _ _ c.joined.ensures e w.1 c.shift-one.ensures c.shift-other.ensures
 
-pub overflow-add-before-in-Sequence : goal.overflow-add-before-in-Sequence
-overflow-add-before-in-Sequence t c =
+pub overflow_add-before-in-Sequence : goal.overflow_add-before-in-Sequence
+overflow_add-before-in-Sequence t c =
     let u = c.args.rule.now in
     let e = ap as_pattern c.in-Sequence.ensures.meaning in
     let w = parts_within u c.args.n c.in-Sequence.a c.in-Sequence.b c.args.others c.requires (ap claims_in e) _ (ap (λ (s : Summary). s.claims) c.summary-first.ensures) in
