@@ -12,7 +12,7 @@ use std::fmt;
 // The claim at the node n.
 #[cycle(claim_two_claims)]
 pub(crate) fn claim<W: fmt::Write>(rule: &Rule, n: u16, f: &mut fmt::Formatter<W>) -> fmt::Result
-    ensures { WritesOnOk write_str_gives f.old result (claim_text (as_claim (thing_of rule.now n))) f.new }
+    ensures { WritesOnOk W.write_str_gives f.old result (claim_text (as_claim (thing_of rule.now n))) f.new }
 {
     let node = rule.node(n);
     match node {
@@ -45,7 +45,7 @@ fn two_claims<W: fmt::Write>(
     b: u16,
     f: &mut fmt::Formatter<W>,
 ) -> fmt::Result
-    ensures { WritesOnOk write_str_gives f.old result (two (claim_text (as_claim (thing_of rule.now a))) mark.now (claim_text (as_claim (thing_of rule.now b)))) f.new }
+    ensures { WritesOnOk W.write_str_gives f.old result (two (claim_text (as_claim (thing_of rule.now a))) mark.now (claim_text (as_claim (thing_of rule.now b)))) f.new }
 {
     f.write_str("(")?;
     claim(rule, a, f)?;

@@ -11,7 +11,7 @@ use std::fmt;
 // The pattern at the node n.
 #[cycle(pattern_two_patterns)]
 pub(crate) fn pattern<W: fmt::Write>(rule: &Rule, n: u16, f: &mut fmt::Formatter<W>) -> fmt::Result
-    ensures { WritesOnOk write_str_gives f.old result (pattern_text (as_pattern (thing_of rule.now n))) f.new }
+    ensures { WritesOnOk W.write_str_gives f.old result (pattern_text (as_pattern (thing_of rule.now n))) f.new }
 {
     let node = rule.node(n);
     match node {
@@ -39,7 +39,7 @@ fn two_patterns<W: fmt::Write>(
     b: u16,
     f: &mut fmt::Formatter<W>,
 ) -> fmt::Result
-    ensures { WritesOnOk write_str_gives f.old result (two (pattern_text (as_pattern (thing_of rule.now a))) mark.now (pattern_text (as_pattern (thing_of rule.now b)))) f.new }
+    ensures { WritesOnOk W.write_str_gives f.old result (two (pattern_text (as_pattern (thing_of rule.now a))) mark.now (pattern_text (as_pattern (thing_of rule.now b)))) f.new }
 {
     f.write_str("(")?;
     pattern(rule, a, f)?;

@@ -10,7 +10,7 @@ use std::fmt;
 
 // The sum at the node n.
 pub(crate) fn sum<W: fmt::Write>(rule: &Rule, n: u16, f: &mut fmt::Formatter<W>) -> fmt::Result
-    ensures { WritesOnOk write_str_gives f.old result (sum_text (as_sum (thing_of rule.now n))) f.new }
+    ensures { WritesOnOk W.write_str_gives f.old result (sum_text (as_sum (thing_of rule.now n))) f.new }
 {
     let node = rule.node(n);
     match node {

@@ -56,7 +56,7 @@ pub(crate) fn between_terms(sign: Sign) -> &'static str
 }
 
 pub(crate) fn name<W: fmt::Write>(name: Name, f: &mut fmt::Formatter<W>) -> fmt::Result
-    ensures { WritesOnOk write_str_gives f.old result (name_text name) f.new }
+    ensures { WritesOnOk W.write_str_gives f.old result (name_text name) f.new }
 {
     match name {
         Name::Plain(field) => f.write_str(field_word(field)),
@@ -68,7 +68,7 @@ pub(crate) fn name<W: fmt::Write>(name: Name, f: &mut fmt::Formatter<W>) -> fmt:
 }
 
 pub(crate) fn term<W: fmt::Write>(term: Term, f: &mut fmt::Formatter<W>) -> fmt::Result
-    ensures { WritesOnOk write_str_gives f.old result (term_text term) f.new }
+    ensures { WritesOnOk W.write_str_gives f.old result (term_text term) f.new }
 {
     match term {
         Term::Constant(value) => write!(f, "{value}"),
