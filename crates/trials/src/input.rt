@@ -90,7 +90,7 @@ fn values(fields: &[u8]) -> Option<[Value; 7]> {
 
 // A value: `-` where it is missing.
 fn value(field: &[u8]) -> Option<Value> {
-    if field == b"-" {
+    if field == b"-".as_slice() {
         return Some(Value::Missing);
     }
     match Value::of(decimal(field)?) {

@@ -18,8 +18,8 @@ returns g c =
     record {
       count = omega arith;
       answered = a;
-      other-answered = a₂;
+      other_answered = a₂;
       moved = c.run.ensures.moved ∙ ap (book_after_all p) (same_calls cs n c.run.result (n - 0) m k);
-      other-moved = c.run-2.ensures.moved ∙ ap (book_after_all q) (same_calls cs n c.run-2.result (n - 0) m₂ k);
+      other_moved = c.run-2.ensures.moved ∙ ap (book_after_all q) (same_calls cs n c.run-2.result (n - 0) m₂ k);
       paired = as_pair (take n cs) (take n c.run.new.replies) (take n c.run-2.new.replies) p q a.told a₂.told;
     }
