@@ -47,7 +47,7 @@ impl fmt::Display for Cell {
     }
 }
 
-fn cell(reply: Reply) -> Cell {
+fn value_in(reply: Reply) -> Cell {
     let value = match reply {
         Reply::ToShow(Shown::Value(value)) => value,
         _ => Value::Missing,
@@ -69,9 +69,9 @@ fn print_page<P: Engine>(rt: &impl Print, pile: &mut P, row: usize) -> io::Resul
     if let Some(fault) = said[0].fault() {
         return print_halt(rt, fault);
     }
-    let day = cell(said[0]);
-    let month = cell(said[1]);
-    let days = cell(said[2]);
+    let day = value_in(said[0]);
+    let month = value_in(said[1]);
+    let days = value_in(said[2]);
     println!(rt; "  row {row}: day {day}, month {month} of {days} days")
 }
 

@@ -15,7 +15,7 @@ loop-line-preserved g c =
     let row = c.loop-line.done.row in
     let line = c.in-Some.line.now in
     let later = lines_of c.in-Some.after.now in
-    let put = c.put-answer-done.ensures in
+    let put = c.put_answer-done.ensures in
     let text = replies_text row (replies p (line_calls (order_of line))) in
     let shorter = c.in-Some.ensures.shorter in (
       remains_less
@@ -27,4 +27,4 @@ loop-line-preserved g c =
 
 pub returns : goal.returns
 returns g c =
-    remains_none (ap (orders_text (g.P.Engine.book c.loop-line.pile) c.loop-line.done.row) c.in-default.ensures.cut) c.loop-line.invariant.0
+    remains_none (ap (orders_text (g.P.Engine.book c.loop-line.pile) c.loop-line.done.row) c.in_default.ensures.cut) c.loop-line.invariant.0

@@ -6,6 +6,6 @@ use Rattle.transcript.proofs.whole.put_log.Goals as goal
 
 pub returns : goal.returns
 returns g c =
-    wrote_then c.put-header-after-header.ensures
-    (wrote_then c.put-making-after-making.ensures.wrote
-    (wrote_same (ap (λ p. orders_text p 0 (lines_of c.args.lines.now)) c.put-making-after-making.ensures.moved) c.put-orders.ensures))
+    wrote_then c.put_header-after_header.ensures
+    (wrote_then c.put_making-after_making.ensures.wrote
+    (wrote_same (ap (λ p. orders_text p 0 (lines_of c.args.lines.now)) c.put_making-after_making.ensures.moved) c.put_orders.ensures))
