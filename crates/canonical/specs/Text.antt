@@ -1,5 +1,5 @@
 -- The canonical text of trees, in full brackets.
-use Rattle.std.specs.Prelude.{ℕ, List, [], ◌∷◌, ◌++◌, codes, decimal}
+use Rattle.std.specs.Prelude.{ℕ, List, [], ◌++◌, codes, decimal}
 use Rattle.grammar.specs.declared.Field.{Field}
 use Rattle.grammar.specs.declared.Field.TheVariants.{Op, Arg, C1, C2, C3, C4, C5, C6}
 use Rattle.grammar.specs.declared.Name.{Name}

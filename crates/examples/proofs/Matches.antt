@@ -9,9 +9,8 @@ use Rattle.grammar.specs.declared.Relation.TheVariants.{Equal}
 use Rattle.grammar.specs.declared.Sign.TheVariants.{Plus}
 use Rattle.grammar.specs.declared.Term.TheVariants.{Constant, Named}
 use Rattle.grammar.specs.Symbol.{LeftSquare, RightSquare, Underscore, Not, Relational, Number, FieldName}
-use Rattle.grammar.specs.Tree.{Pattern, Claim, empty, claim, negation, comparison, first}
+use Rattle.grammar.specs.Tree.{Claim, empty, claim, negation, comparison, first}
 use Rattle.grammar.specs.Cutting.{Placed, placed, symbols, Cut, cut_end, cut_space, cut_token}
-use Rattle.grammar.specs.Reading.{Allowed}
 use Rattle.grammar.proofs.Lexemes.{word_longest, number_longest, one_longest}
 use Rattle.grammar.proofs.Sound.{run_rule}
 use Rattle.matching.specs.Truth.{number_in, signed_by, compared}

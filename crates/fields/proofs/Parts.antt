@@ -1,5 +1,5 @@
 -- Bytes parted at an index.
-use Rattle.std.proofs.Common.{◌≡◌, ℕ, zero, suc, ◌-◌, ◌<◌, ◌≤◌, List, [], ◌∷◌, ◌++◌, length, get_or, take, drop, sym, refl, ap, ◌∙◌, arith, length-drop, take_all}
+use Rattle.std.proofs.Common.{◌≡◌, ℕ, zero, suc, ◌-◌, ◌<◌, List, [], ◌∷◌, ◌++◌, length, get_or, take, drop, sym, refl, ap, ◌∙◌, arith, length-drop, take_all}
 use Rattle.fields.specs.Fields.{Ended, by_mark, by_end}
 
 empty : (bytes : List ℕ) → length bytes ≡ 0 → bytes ≡ []

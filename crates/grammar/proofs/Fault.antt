@@ -1,6 +1,5 @@
 -- The place of a fault: the tokens before it can go on to a rule, and with the token there they cannot.
 use Rattle.std.proofs.Common.{◌≡◌, ℕ, suc, ◌+◌, ◌-◌, ◌<◌, List, [], ◌∷◌, ◌++◌, length, take, sym, refl, ap, ◌∙◌, subst, append_assoc, add-one, arith, length-append}
-use mathlib.Core.Option.{none}
 use Rattle.grammar.specs.Symbol.{Symbol, RightRound, Underscore}
 use Rattle.grammar.specs.Tree.{Pattern, empty, claim}
 use Rattle.grammar.specs.Machine.{Frame, frame, with_chain, with_rule, State, want, have, inside, Next, stop, go, step, good, bad, at_end, follow, run, start}

@@ -1,5 +1,5 @@
 -- How nodes are put after others, and what they then stand for.
-use Rattle.std.proofs.Common.{◌≡◌, ℕ, ◌+◌, ◌-◌, ◌<◌, ◌≤◌, List, [], ◌∷◌, ◌++◌, length, get_or, take, sym, ap, ◌∙◌, subst, append_assoc, arith, length-append, length-take}
+use Rattle.std.proofs.Common.{◌≡◌, ℕ, ◌+◌, ◌<◌, ◌≤◌, List, [], ◌∷◌, ◌++◌, length, get_or, take, sym, ap, ◌∙◌, subst, append_assoc, arith, length-append, length-take}
 use Rattle.rule.specs.declared.node.Node.{Node}
 use Rattle.rule.specs.Trees.{Thing, blank, made, things, thing}
 use Rattle.rule.specs.Built.{Made}

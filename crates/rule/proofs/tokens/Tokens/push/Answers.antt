@@ -1,4 +1,4 @@
-use Rattle.std.proofs.Common.{◌≡◌, ◌+◌, true, [], ◌∷◌, ◌++◌, sym, refl, ◌∙◌, subst, arith, length-append, length-set, length-take-le, take_all}
+use Rattle.std.proofs.Common.{◌≡◌, true, [], ◌∷◌, ◌++◌, sym, refl, ◌∙◌, subst, arith, length-append, length-set, length-take-le, take_all}
 use lib.Seq.{take-append-le}
 use Rattle.std.proofs.lemmas.List.{take_more_set}
 use Rattle.rule.specs.Spots.{spot, all_real}
