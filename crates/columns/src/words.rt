@@ -1,6 +1,6 @@
 // Words of a column file: as counts and places, and as values.
 ghost use Rattle.std.specs.Prelude.{◌≡◌, ◌-◌};
-ghost use Rattle.columns.specs.File.{natural as natural_of, allowed as Allowed_of};
+ghost use Rattle.columns.specs.File.{natural as natural_of, allowed as allowed_of};
 ghost use Rattle.columns.specs.Rows.{entry as entry_of, last_row};
 
 use engine::Value;
@@ -16,7 +16,7 @@ pub fn natural(word: i32) -> usize
 
 // Whether a word may stand in a column.
 pub fn allowed(word: i32) -> bool
-    ensures { result ≡ Allowed_of word }
+    ensures { result ≡ allowed_of word }
 {
     match Value::of(word) {
         Value::Number(_) => true,

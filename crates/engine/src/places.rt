@@ -1,12 +1,12 @@
 // Where orders lead on an engine whose places are numbered 1, 2, ..: the argument is tried first, then where it leads.
 ghost use Rattle.std.specs.Prelude.{◌≡◌, ◌+◌};
-ghost use Rattle.engine.specs.Mechanisms.{opening as Opening_of, onward as onward_of};
+ghost use Rattle.engine.specs.Mechanisms.{opening as opening_of, onward as onward_of};
 
 use crate::Refusal;
 
 // The opening that an argument names, of so many.
 pub fn opening(count: u16, argument: i32) -> Result<u16, Refusal>
-    ensures { result ≡ Opening_of count argument }
+    ensures { result ≡ opening_of count argument }
 {
     if argument < 1 || argument > count as i32 {
         return Err(Refusal::Argument);

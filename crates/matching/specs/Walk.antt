@@ -80,26 +80,26 @@ empty_back (x ∷ xs) ys e = let z : ◌≡◌ {A = ℕ} 0 1 = cc in absurd (ome
 
 module _ {R : Type 0} (test : Claim → R → Bool) where
   -- what a fit is made of
-  summary_of_empty : {xs : List R} → Fits test empty xs → xs ≡ []
-  summary_of_empty fits_empty = refl
+  of_empty : {xs : List R} → Fits test empty xs → xs ≡ []
+  of_empty fits_empty = refl
 
-  summary_of_claim : {c : Claim} {xs : List R} → Fits test (claim c) xs → (r : R) × (xs ≡ (r ∷ [])) × T (test c r)
-  summary_of_claim (fits_claim {r = r} t) = (r, refl, t)
+  of_claim : {c : Claim} {xs : List R} → Fits test (claim c) xs → (r : R) × (xs ≡ (r ∷ [])) × T (test c r)
+  of_claim (fits_claim {r = r} t) = (r, refl, t)
 
-  summary_of_alternative : {p q : Pattern} {xs : List R} → Fits test (alternative p q) xs → Fits test p xs ⊎ Fits test q xs
-  summary_of_alternative (fits_left f) = inl f
-  summary_of_alternative (fits_right f) = inr f
+  of_alternative : {p q : Pattern} {xs : List R} → Fits test (alternative p q) xs → Fits test p xs ⊎ Fits test q xs
+  of_alternative (fits_left f) = inl f
+  of_alternative (fits_right f) = inr f
 
-  summary_of_sequence : {p q : Pattern} {xs : List R} → Fits test (sequence p q) xs → Split (Fits test p) (Fits test q) xs
-  summary_of_sequence (fits_sequence {xs = xs} {ys = ys} f g) = record { front = xs; back = ys; joined = refl; first = f; rest = g }
+  of_sequence : {p q : Pattern} {xs : List R} → Fits test (sequence p q) xs → Split (Fits test p) (Fits test q) xs
+  of_sequence (fits_sequence {xs = xs} {ys = ys} f g) = record { front = xs; back = ys; joined = refl; first = f; rest = g }
 
   -- a star over a row: some part takes that row
-  summary_of_star : {p : Pattern} {xs : List R} → Fits test (star p) xs → (r : R) (rows : List R) → (r ∷ rows) ≡ xs →
+  of_star : {p : Pattern} {xs : List R} → Fits test (star p) xs → (r : R) (rows : List R) → (r ∷ rows) ≡ xs →
       Split (λ zs. Fits test p (r ∷ zs)) (Fits test (star p)) rows
-  summary_of_star fits_stop r rows e = let z : ◌≡◌ {A = ℕ} 0 1 = cc in absurd (omega arith)
-  summary_of_star {p} (fits_more {xs = xs} {ys = ys} f g) r rows e =
+  of_star fits_stop r rows e = let z : ◌≡◌ {A = ℕ} 0 1 = cc in absurd (omega arith)
+  of_star {p} (fits_more {xs = xs} {ys = ys} f g) r rows e =
       elim (halves r rows xs ys e) [
-        | inl h ↦ summary_of_star g r rows (sym h.1)
+        | inl h ↦ of_star g r rows (sym h.1)
         | inr h ↦ record { front = h.0; back = ys; joined = h.2; first = subst (Fits test p) h.1 f; rest = g }
       ]
 
@@ -113,10 +113,10 @@ module _ {R : Type 0} (test : Claim → R → Bool) where
 
   fits_null : (p : Pattern) → Fits test p [] → T (null p)
   fits_null empty f = tt
-  fits_null (claim c) f = let h = summary_of_claim f in let e = h.1 in let z : ◌≡◌ {A = ℕ} 0 1 = cc in absurd (omega arith)
-  fits_null (alternative p q) f = elim (summary_of_alternative f) [ inl h ↦ left_or (null p) (null q) (fits_null p h) | inr h ↦ right_or (null p) (null q) (fits_null q h) ]
+  fits_null (claim c) f = let h = of_claim f in let e = h.1 in let z : ◌≡◌ {A = ℕ} 0 1 = cc in absurd (omega arith)
+  fits_null (alternative p q) f = elim (of_alternative f) [ inl h ↦ left_or (null p) (null q) (fits_null p h) | inr h ↦ right_or (null p) (null q) (fits_null q h) ]
   fits_null (sequence p q) f =
-      let h = summary_of_sequence f in
+      let h = of_sequence f in
       both_and (null p) (null q)
       (fits_null p (subst (Fits test p) (empty_front h.front h.back h.joined) h.first))
       (fits_null q (subst (Fits test q) (empty_back h.front h.back h.joined) h.rest))
@@ -267,12 +267,12 @@ module _ {R : Type 0} (test : Claim → R → Bool) where
   shift_complete : (r : R) (m : ℕ → Bool) (e : Bool) (lo : ℕ) (p : Pattern) (rows : List R) →
       After test m lo p (r ∷ rows) ⊎ (T e × Fits test p (r ∷ rows)) → After test (shift test r m e lo p) lo p rows
   shift_complete r m e lo empty rows t =
-      elim t [ inl a ↦ a | inr a ↦ let h = summary_of_empty a.1 in let z : ◌≡◌ {A = ℕ} 0 1 = cc in absurd (omega arith) ]
+      elim t [ inl a ↦ a | inr a ↦ let h = of_empty a.1 in let z : ◌≡◌ {A = ℕ} 0 1 = cc in absurd (omega arith) ]
   shift_complete r m e lo (claim c) rows t =
       elim t [
         | inl a ↦ let h = a.1 in let z : ◌≡◌ {A = ℕ} 0 1 = cc in absurd (omega arith)
         | inr a ↦
-            let h = summary_of_claim a.1 in
+            let h = of_claim a.1 in
             let g = h.1 in
             let same : h.0 ≡ r = cc in
             let over : rows ≡ [] = cc in
@@ -290,7 +290,7 @@ module _ {R : Type 0} (test : Claim → R → Bool) where
           | inl b ↦ inl (toP (shift_complete r m e lo p rows (inl b)))
           | inr b ↦ inr (toQ (shift_complete r m e (lo + claims_in p) q rows (inl b)))
         ]
-        | inr a ↦ elim (summary_of_alternative a.1) [
+        | inr a ↦ elim (of_alternative a.1) [
           | inl b ↦ inl (toP (shift_complete r m e lo p rows (inr (a.0, b))))
           | inr b ↦ inr (toQ (shift_complete r m e (lo + claims_in p) q rows (inr (a.0, b))))
         ]
@@ -320,7 +320,7 @@ module _ {R : Type 0} (test : Claim → R → Bool) where
           ]
           | inr b ↦ inr (toQ (shift_complete r m d (lo + claims_in p) q rows (inl b)))
         ]
-        | inr a ↦ let b = summary_of_sequence a.1 in
+        | inr a ↦ let b = of_sequence a.1 in
             elim (halves r rows b.front b.back b.joined) [
               | inl h ↦ inr (toQ (shift_complete r m d (lo + claims_in p) q rows (inr (
                 left_or (e && null p) (left m lo p) (both_and e (null p) a.0 (fits_null p (subst (Fits test p) h.0 b.first))),
@@ -338,7 +338,7 @@ module _ {R : Type 0} (test : Claim → R → Bool) where
   shift_complete r m e lo (star p) rows t =
       let d = e || left m lo p in
       let begin : T d → Fits test (star p) (r ∷ rows) → Split (After test (shift test r m d lo p) lo p) (Fits test (star p)) rows =
-      λ h f. let c = summary_of_star f r rows refl in
+      λ h f. let c = of_star f r rows refl in
       record {
         front = c.front;
         back = c.back;

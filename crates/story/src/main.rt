@@ -17,12 +17,13 @@ const MENDED: [i32; 27] = [
     5, 5, 7, 12, 17, 12, 22, 1, 31, 60, 90, 119, 1, 1, 1, 1, 1, 1, 2, 3, 4, 5, 30, 29, 30, 29, 30,
 ];
 
-const STORY: [&str; 5] = [
-    "Last, the whole story. The same table comes as a file: a list of words with one column after",
-    "another. An engine shows it row by row, and two watches stand over the engine, one above the",
-    "other. The inner one wants 30 days in odd months, the outer one wants the newest day to be",
-    "later than all days seen after row 0. The pile is turned four times. It halts at the first",
-    "row at which a rule fails, names the watch and the row, and stays so; it never shows that row.",
+const STORY: [&str; 6] = [
+    "A table with the first days of five months comes as a file: a list of words with one column",
+    "after another. An engine shows it row by row, and two watches stand over the engine, one above",
+    "the other. The inner one wants 30 days in odd months, the outer one wants the newest day to be",
+    "later than all days seen after row 0. The pile is turned four times. It halts at the first row",
+    "at which a rule fails, names the watch and the row, and stays so; it never shows that row. In",
+    "the file as it came month 3 has 29 days and should have 30.",
 ];
 
 const INNER: &str = "[(c3 = 1 or c3 = 3 or c3 = 5 or c3 = 7 or c3 = 9 or c3 = 11) => c5 = 30]";
