@@ -1,6 +1,5 @@
 -- The reckoned calendar as a book: what each day of the cycle shows, and where orders lead.
-use Rattle.std.specs.Prelude.{◌≡◌, ℕ, ◌+◌, ◌-◌, ◌*◌, ◌≤◌, true, List, [], ◌∷◌, pos, Ok, Err, Result}
-use Rattle.engine.specs.declared.Value.TheVariants.{Missing, Number}
+use Rattle.std.specs.Prelude.{◌≡◌, ℕ, ◌+◌, ◌-◌, ◌*◌, ◌≤◌, true, List, [], ◌∷◌, pos, Some, None, Ok, Err, Result}
 use Rattle.engine.specs.declared.Values.{Values}
 use Rattle.engine.specs.declared.orders.Order.{Order}
 use Rattle.engine.specs.declared.orders.Order.TheVariants.{Open, Turn, Skip}
@@ -10,6 +9,7 @@ use Rattle.engine.specs.Values.{value_of, values_in_range}
 use Rattle.engine.specs.Messages.{message}
 use Rattle.engine.specs.Books.{Book, Lawful, takes, after, answer, reading}
 use Rattle.engine.specs.Mechanisms.{Mechanism, opening, up_to, onward, page_at, book_from, value_ranged, mechanism_lawful}
+use Rattle.calendar.specs.declared.day.Day.{Day}
 use Rattle.calendar.specs.declared.reckoned.Reckoned.{Reckoned}
 use Rattle.calendar.specs.Months.{Place, place, in_month, lengths, year_of, month_of, length_of, days_before, first_day_of}
 
@@ -21,7 +21,7 @@ values_at day p = record {
   c3 = value_of (pos (month_of p.month));
   c4 = value_of (pos p.day);
   c5 = value_of (pos (length_of p.month));
-  c6 = Missing;
+  c6 = None;
 }
 
 -- the first day of the year that an open names
@@ -35,6 +35,11 @@ leads_from day (Open a) = opened (opening 30 a)
 leads_from day Turn = up_to 10631 (day + 1)
 leads_from day (Skip a) = onward 10631 day a
 
+-- the number of the day that an order leads to
+abbrev pub numbered : Result Day Refusal → Result ℕ Refusal
+numbered (Ok day) = Ok day.number
+numbered (Err why) = Err why
+
 -- the states are the days of the cycle, 1 to 10,631
 abbrev pub reckoning : Mechanism ℕ
 reckoning = record { shows = λ day. values_at day (place lengths day); leads = leads_from }
@@ -44,14 +49,14 @@ abbrev pub reckoned : Book
 reckoned = book_from reckoning 1
 
 abbrev pub reckoned_book : Reckoned → Book
-reckoned_book e = book_from reckoning e.day
+reckoned_book e = book_from reckoning e.day.number
 
 -- what every book keeps, since the values shown are in range
 ranged : (day : ℕ) → values_in_range (reckoning.shows day) ≡ true
 ranged day = simp value_ranged
 
 pub reckoned_lawful : (e : Reckoned) → Lawful (reckoned_book e)
-reckoned_lawful e = mechanism_lawful reckoning ranged e.day
+reckoned_lawful e = mechanism_lawful reckoning ranged e.day.number
 
 -- each order of a list is taken in turn
 abbrev pub AllTaken : Book → List Order → Type 0
@@ -69,12 +74,12 @@ EachYearOpened = (year : ℕ) → 1 ≤ year → year ≤ 30 → place lengths (
 -- the values of a date, written out
 abbrev dated : ℕ → ℕ → ℕ → ℕ → ℕ → Values
 dated day year month of_month days = record {
-  c1 = Number (pos day);
-  c2 = Number (pos year);
-  c3 = Number (pos month);
-  c4 = Number (pos of_month);
-  c5 = Number (pos days);
-  c6 = Missing;
+  c1 = Some (pos day);
+  c2 = Some (pos year);
+  c3 = Some (pos month);
+  c4 = Some (pos of_month);
+  c5 = Some (pos days);
+  c6 = None;
 }
 
 -- the number by which an order is answered on some day

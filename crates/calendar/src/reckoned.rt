@@ -1,6 +1,8 @@
 // The engine that reckons its days.
-ghost use Rattle.std.specs.Prelude.{◌≡◌, ◌≤◌};
+ghost use Rattle.std.specs.Prelude.{◌≡◌};
 ghost use Rattle.calendar.specs.Months.{place, lengths};
+
+use crate::day::Day;
 
 mod moving;
 
@@ -8,11 +10,9 @@ mod moving;
 // and the day of that month.
 #[derive(Drop)]
 pub struct Reckoned {
-    day: u16,
+    day: Day,
     month: u16,
     day_of_month: u16,
-    ghost begun: { 1 ≤ day },
-    ghost within: { day ≤ 10631 },
-    ghost placed: { month ≡ (place lengths day).month },
-    ghost dated: { day_of_month ≡ (place lengths day).day },
+    ghost placed: { month ≡ (place lengths day.number).month },
+    ghost dated: { day_of_month ≡ (place lengths day.number).day },
 }

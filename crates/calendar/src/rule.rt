@@ -6,10 +6,7 @@ ghost use Rattle.calendar.specs.Months.{leap as leap_year, days_in};
 fn leap(year: u16) -> bool
     ensures { result ≡ leap_year year }
 {
-    match year {
-        2 | 5 | 7 | 10 | 13 | 16 | 18 | 21 | 24 | 26 | 29 => true,
-        _ => false,
-    }
+    matches!(year, 2 | 5 | 7 | 10 | 13 | 16 | 18 | 21 | 24 | 26 | 29)
 }
 
 // The days in a month of a year.
@@ -17,7 +14,8 @@ pub(crate) fn month_length(year: u16, month: u16) -> u16
     ensures { result ≡ days_in year month }
 {
     if month % 2 == 1 || month == 12 && leap(year) {
-        return 30;
+        30
+    } else {
+        29
     }
-    29
 }

@@ -3,6 +3,8 @@ ghost use Rattle.std.specs.Prelude.{◌≡◌, suc, ◌-◌, ◌*◌, ◌<◌, �
 ghost use Rattle.calendar.specs.Months.{lengths_from, lengths, days_before, first_day_of};
 ghost use Rattle.calendar.specs.Starts.{starts_from, Starts};
 
+use crate::day::Day;
+
 // The day of the cycle on which each of the 360 months begins.
 const STARTS: [u16; 360] = [
     1, 31, 60, 90, 119, 149, 178, 208, 237, 267, 296, 326, 355, 385, 414, 444, 473, 503, 532, 562,
@@ -45,15 +47,13 @@ pub(crate) fn month_starts() -> &'static [u16]
 }
 
 // The month of the cycle, counted from 0, in which a day falls.
-pub(crate) fn month_of(starts: &[u16], day: u16) -> usize
-    requires table { Starts lengths starts.now }
-    requires first { 1 ≤ day }
-    requires last { day ≤ 10631 }
+pub(crate) fn month_of(starts: &[u16], day: Day) -> usize
+    requires { Starts lengths starts.now }
     ensures within { result < 360 }
-    ensures from { days_before result lengths < day }
-    ensures until { day ≤ days_before (suc result) lengths }
+    ensures from { days_before result lengths < day.number }
+    ensures until { day.number ≤ days_before (suc result) lengths }
 {
-    match starts.binary_search(&day) {
+    match starts.binary_search(&day.number) {
         Ok(k) => k,
         Err(k) => k - 1,
     }
@@ -68,11 +68,12 @@ fn first_month(year: u16) -> usize
 }
 
 // The first day of a year.
-pub(crate) fn first_day(year: u16) -> u16
+pub(crate) fn first_day(year: u16) -> Day
     requires first { 1 ≤ year }
     requires last { year ≤ 30 }
-    ensures { result ≡ first_day_of year }
+    ensures { result.number ≡ first_day_of year }
 {
     let starts = month_starts();
-    starts[first_month(year)]
+    let number = starts[first_month(year)];
+    Day { number }
 }

@@ -6,12 +6,9 @@ ghost use Rattle.std.specs.Prelude.{◌≡◌, Some};
 ghost use Rattle.rule.specs.Held.{rule_tree};
 ghost use Rattle.canonical.specs.Text.{pattern_text};
 
-mod claims;
-mod patterns;
-mod sums;
-mod words;
+mod part;
 
-use patterns::pattern;
+use part::Part;
 use rule::Rule;
 use std::fmt;
 
@@ -33,6 +30,6 @@ impl fmt::Display for Canonical<'_> {
     ghost output = { λ c. Some (pattern_text (rule_tree c.rule.now)) };
 
     fn fmt<W: fmt::Write>(&self, f: &mut fmt::Formatter<W>) -> fmt::Result {
-        pattern(self.rule, self.rule.root(), f)
+        write!(f, "{}", Part::root(self.rule))
     }
 }

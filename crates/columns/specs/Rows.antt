@@ -1,14 +1,10 @@
 -- The engine over a column file: its states are the rows, counted from 1.
-use Rattle.std.specs.Prelude.{◌≡◌, ℕ, ◌+◌, ◌-◌, ◌<◌, ◌≤◌, min, Bool, true, false, cond, ◌&&◌, List, [], length, ℤ, pos, Result, nat_lt, refl}
-use Rattle.engine.specs.declared.Value.{Value as Datum}
-use Rattle.engine.specs.declared.Value.TheVariants.{Missing, Number}
+use Rattle.std.specs.Prelude.{◌≡◌, ℕ, ◌+◌, ◌-◌, ◌<◌, ◌≤◌, min, Bool, true, false, cond, ◌&&◌, List, [], length, ℤ, pos, Some, None, Ok, Result, nat_lt, refl}
 use Rattle.engine.specs.declared.Values.{Values}
 use Rattle.engine.specs.declared.orders.Order.{Order}
 use Rattle.engine.specs.declared.orders.Order.TheVariants.{Open, Turn, Skip}
 use Rattle.engine.specs.declared.answers.Refusal.{Refusal}
-use Rattle.engine.specs.declared.answers.Answer.TheVariants.{Taken}
-use Rattle.engine.specs.declared.answers.Shown.TheVariants.{Value}
-use Rattle.engine.specs.Values.{value_of, value_in_range, values_in_range}
+use Rattle.engine.specs.Values.{Value, value_of, value_in_range, values_in_range}
 use Rattle.engine.specs.Books.{Book, Lawful, after, answer, shown, is_live}
 use Rattle.engine.specs.Mechanisms.{Mechanism, book_from, opening, up_to, onward, value_ranged, mechanism_lawful}
 use Rattle.columns.specs.declared.Columns.{Columns}
@@ -19,8 +15,8 @@ abbrev held : List ℤ → ℕ → ℕ → Bool
 held ws c k = nat_lt c (column_count ws) && (nat_lt (2 + c) (length ws) && nat_lt (offset ws c + k) (length ws))
 
 -- what stands in a column at a row: missing where there is no such word, and where the word is no value
-abbrev pub entry : List ℤ → ℕ → ℕ → Datum
-entry ws c k = cond (held ws c k) (value_of (word ws (offset ws c + k))) Missing
+abbrev pub entry : List ℤ → ℕ → ℕ → Value
+entry ws c k = cond (held ws c k) (value_of (word ws (offset ws c + k))) None
 
 abbrev pub row_values : List ℤ → ℕ → Values
 row_values ws row = record {
@@ -49,8 +45,8 @@ abbrev pub columns_book : Columns → Book
 columns_book e = book_from (filing e.words.now) e.row
 
 -- what a word of a column says, where it is in order
-abbrev pub datum : ℤ → Datum
-datum z = cond (is_missing z) Missing (Number z)
+abbrev pub datum : ℤ → Value
+datum z = cond (is_missing z) None (Some z)
 
 -- the book of a file from row 1, and after a row has been opened there
 abbrev pub file_book : List ℤ → Book
@@ -66,10 +62,10 @@ pub record IsRow (ws : List ℤ) (r : ℕ) : Type 0 where
 
 -- Each row can be opened, and then each column shows the word of that row in the file; columns above the count are missing.
 pub record EachRowShown (ws : List ℤ) : Type 0 where
-  pub taken : (r : ℕ) → IsRow ws r → answer (file_book ws) (Open (pos r)) ≡ Taken
+  pub taken : (r : ℕ) → IsRow ws r → answer (file_book ws) (Open (pos r)) ≡ Ok tt
   pub lives : (r : ℕ) → IsRow ws r → is_live (opened ws r []) ≡ true
-  pub present : (r : ℕ) → IsRow ws r → (c : ℕ) → c < column_count ws → shown (opened ws r) (pos (c + 1)) ≡ Value (datum (word ws (offset ws c + (r - 1))))
-  pub absent : (r : ℕ) → IsRow ws r → (c : ℕ) → column_count ws ≤ c → c < 6 → shown (opened ws r) (pos (c + 1)) ≡ Value Missing
+  pub present : (r : ℕ) → IsRow ws r → (c : ℕ) → c < column_count ws → shown (opened ws r) (pos (c + 1)) ≡ Ok (datum (word ws (offset ws c + (r - 1))))
+  pub absent : (r : ℕ) → IsRow ws r → (c : ℕ) → column_count ws ≤ c → c < 6 → shown (opened ws r) (pos (c + 1)) ≡ Ok None
 
 -- what is made of a list: an engine over all its words, at row 1 of a sound file, and each row can be seen through it
 pub record Made (ws : List ℤ) (e : Columns) : Type 0 where
@@ -81,7 +77,7 @@ pub record Made (ws : List ℤ) (e : Columns) : Type 0 where
 -- what any list shows is in range, so the book of every engine is lawful
 entry_ranged : (ws : List ℤ) (c k : ℕ) → value_in_range (entry ws c k) ≡ true
 entry_ranged ws c k = by (held ws c k) where
-  by : (h : Bool) → value_in_range (cond h (value_of (word ws (offset ws c + k))) Missing) ≡ true
+  by : (h : Bool) → value_in_range (cond h (value_of (word ws (offset ws c + k))) None) ≡ true
   by true = value_ranged (word ws (offset ws c + k))
   by false = refl
 

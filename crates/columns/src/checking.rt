@@ -1,85 +1,87 @@
 // Whether a list of words is a column file: the header is tried first, then every offset, then every value.
-ghost use Rattle.std.specs.Prelude.{◌<◌, MatchBool, MatchOption, MatchResult};
-ghost use Rattle.columns.specs.File.{row_count, HeaderOk, OffsetOk, OffsetsOk, ValueOk, ColumnOk, ColumnsOk, Lowest, BadOffset, BadValue, Sound, Refused};
-ghost use Rattle.columns.specs.Headers.{HeaderRead};
+ghost use Rattle.std.specs.Prelude.{◌≡◌, MatchBool, MatchOption, MatchResult};
+ghost use Rattle.columns.specs.File.{row_count, HeaderOk, OffsetsOk, ColumnsOk, Each, Sound, Refused};
+ghost use Rattle.columns.specs.Headers.{offset_words, OffsetFits, RowOk, BadRow};
 
 use crate::refusals::FileRefusal;
 use crate::words::{allowed, natural};
 
-// The two counts of a header.
+// A list of words whose header is whole and in range, taken apart: the offsets, and how many rows each column has.
 #[derive(Clone, Copy)]
-struct Header {
-    columns: usize,
+struct File<'a> {
+    words: &'a [i32],
+    offsets: &'a [i32],
     rows: usize,
+    ghost ok: { HeaderOk words.now },
+    ghost read: { offsets.now ≡ offset_words words.now },
+    ghost counted: { rows ≡ row_count words.now },
 }
 
-impl Header {
-    // The header, if it is whole and both counts are in range.
-    fn read(words: &[i32]) -> Option<Header>
-        ensures { MatchOption result (HeaderOk words.now → ⊥) (λ h. HeaderRead words.now h) }
+impl<'a> File<'a> {
+    // Takes the header apart, if it is in order.
+    fn read(words: &'a [i32]) -> Option<File<'a>>
+        ensures { MatchOption result (HeaderOk words.now → ⊥) (λ f. f.words.now ≡ words.now) }
     {
-        if words.len() < 2 {
+        let [columns, rows, rest @ ..] = words else {
+            return None;
+        };
+        let columns = natural(*columns);
+        let rows = natural(*rows);
+        if columns < 1 || columns > 6 || rows < 1 || rows > 20_000 {
             return None;
         }
-        let columns = natural(words[0]);
-        let rows = natural(words[1]);
-        if columns < 1 || columns > 6 || rows < 1 || rows > 20_000 || words.len() < 2 + columns {
-            return None;
-        }
-        Some(Header { columns, rows })
+        let offsets = rest.get(0..columns)?;
+        Some(File {
+            words,
+            offsets,
+            rows,
+        })
     }
 
-    // Whether a column begins after the header and ends inside the list.
-    fn offset_fits(self, words: &[i32], column: usize) -> bool
-        requires head { HeaderRead words.now self }
-        requires within { column < self.columns }
-        ensures { MatchBool result (OffsetOk words.now column) (OffsetOk words.now column → ⊥) }
+    // Whether a column with this offset begins after the header and ends inside the list.
+    fn fits(&self, offset: i32) -> bool
+        ensures { MatchBool result (OffsetFits self.now.words.now offset) (OffsetFits self.now.words.now offset → ⊥) }
     {
-        let first = natural(words[2 + column]);
-        2 + self.columns <= first && first + self.rows <= words.len()
+        let first = natural(offset);
+        2 + self.offsets.len() <= first && first + self.rows <= self.words.len()
     }
 
-    // The place of the bad offset of the lowest column that has one.
-    fn bad_offset(self, words: &[i32]) -> Option<usize>
-        requires { HeaderRead words.now self }
-        ensures { MatchOption result (OffsetsOk words.now) (λ p. BadOffset words.now p) }
+    // Refuses the lowest column whose offset is bad.
+    fn check_offsets(&self) -> Result<(), FileRefusal>
+        ensures { MatchResult result (λ _. OffsetsOk self.now.words.now) (λ e. Refused self.now.words.now e) }
     {
-        for column in 0..self.columns {
-            if !self.offset_fits(words, column) {
-                return Some(2 + column);
+        for (column, offset) in self.offsets.iter().enumerate() {
+            if !self.fits(*offset) {
+                return Err(FileRefusal::Offset(2 + column));
             }
         }
-        None
+        Ok(())
     }
 
-    // The lowest row of a column whose value is bad.
-    fn bad_row(self, words: &[i32], column: usize) -> Option<usize>
-        requires head { HeaderRead words.now self }
-        requires within { column < self.columns }
-        requires fits { OffsetOk words.now column }
-        ensures { MatchOption result (ColumnOk words.now column) (λ k. Lowest (ValueOk words.now column) (row_count words.now) k) }
+    // Refuses the lowest bad value in the column that has this offset.
+    fn check_column(&self, offset: i32) -> Result<(), FileRefusal>
+        requires { OffsetFits self.now.words.now offset }
+        ensures { MatchResult result (λ _. Each (RowOk self.now.words.now offset) (row_count self.now.words.now)) (λ e. BadRow self.now.words.now offset e) }
     {
-        let first = natural(words[2 + column]);
-        for row in 0..self.rows {
-            if !allowed(words[first + row]) {
-                return Some(row);
+        let first = natural(offset);
+        let column = &self.words[first..first + self.rows];
+        for (row, word) in column.iter().enumerate() {
+            if !allowed(*word) {
+                return Err(FileRefusal::Value(first + row));
             }
         }
-        None
+        Ok(())
     }
 
-    // The place of the bad value in the lowest column that has one, and there in the lowest row.
-    fn bad_value(self, words: &[i32]) -> Option<usize>
-        requires head { HeaderRead words.now self }
-        requires fits { OffsetsOk words.now }
-        ensures { MatchOption result (ColumnsOk words.now) (λ p. BadValue words.now p) }
+    // Refuses the lowest bad value of the lowest column that has one.
+    fn check_values(&self) -> Result<(), FileRefusal>
+        requires { OffsetsOk self.now.words.now }
+        ensures { MatchResult result (λ _. ColumnsOk self.now.words.now) (λ e. Refused self.now.words.now e) }
     {
-        for column in 0..self.columns {
-            if let Some(row) = self.bad_row(words, column) {
-                return Some(natural(words[2 + column]) + row);
-            }
+        for offset in self.offsets {
+            self.check_column(*offset)?;
         }
-        None
+        Ok(())
     }
 }
 
@@ -87,14 +89,7 @@ impl Header {
 pub fn verify(words: &[i32]) -> Result<(), FileRefusal>
     ensures { MatchResult result (λ _. Sound words.now) (λ e. Refused words.now e) }
 {
-    let Some(header) = Header::read(words) else {
-        return Err(FileRefusal::Header);
-    };
-    if let Some(place) = header.bad_offset(words) {
-        return Err(FileRefusal::Offset(place));
-    }
-    if let Some(place) = header.bad_value(words) {
-        return Err(FileRefusal::Value(place));
-    }
-    Ok(())
+    let file = File::read(words).ok_or(FileRefusal::Header)?;
+    file.check_offsets()?;
+    file.check_values()
 }

@@ -2,12 +2,10 @@
 #![tactic(auto)]
 
 ghost use Rattle.std.specs.Prelude.{◌≡◌, MatchResult};
-ghost use Rattle.engine.specs.Books.{answer, after};
-ghost use Rattle.engine.specs.declared.orders.Order.TheVariants.{Open, Turn, Skip};
 ghost use Rattle.columns.specs.File.{Refused, OneVerdict};
 ghost use Rattle.columns.specs.Rows.{lead as lead_of, columns_book, columns_lawful, file_book, Made};
 
-use engine::{Answer, Engine, Order, Refusal, Shown, onward, opening};
+use engine::{Answer, Engine, Order, Refusal, ShowError, Shown, onward, opening};
 use words::{entry, last_row};
 
 mod checking;
@@ -18,7 +16,7 @@ pub use refusals::FileRefusal;
 
 // An engine over a column file, at a row counted from 1. No invariant says that the words are
 // a column file, so each read tests its place and its value.
-#[derive(Drop)]
+#[derive(Clone, Copy, Debug)]
 pub struct Columns<'a> {
     words: &'a [i32],
     row: u16,
@@ -53,21 +51,6 @@ impl<'a> Columns<'a> {
             Order::Skip(argument) => onward(last, self.row, argument),
         }
     }
-
-    // Goes where an order leads.
-    fn go(&mut self, order: Order) -> Answer
-        ensures told { result ≡ answer (columns_book self.old) order }
-        ensures moved { columns_book self.new ≡ after (columns_book self.old) order }
-        ensures same_words { self.new.words.now ≡ self.old.words.now }
-    {
-        match self.lead(order) {
-            Ok(row) => {
-                self.row = row;
-                Answer::Taken
-            }
-            Err(why) => Answer::Refused(why),
-        }
-    }
 }
 
 impl<'a> Engine for Columns<'a> {
@@ -75,54 +58,28 @@ impl<'a> Engine for Columns<'a> {
 
     ghost lawful = { columns_lawful };
 
-    fn open(&mut self, argument: i32) -> Answer
-        ensures told { result ≡ answer (columns_book self.old) (Open argument) }
-        ensures moved { columns_book self.new ≡ after (columns_book self.old) (Open argument) }
-        ensures same_words { self.new.words.now ≡ self.old.words.now }
-    {
-        self.go(Order::Open(argument))
-    }
+    // no order touches the words
+    ghost effect = { λ old new _ _. new.words.now ≡ old.words.now };
 
-    fn turn(&mut self) -> Answer
-        ensures told { result ≡ answer (columns_book self.old) Turn }
-        ensures moved { columns_book self.new ≡ after (columns_book self.old) Turn }
-        ensures same_words { self.new.words.now ≡ self.old.words.now }
-    {
-        self.go(Order::Turn)
-    }
-
-    fn skip(&mut self, argument: i32) -> Answer
-        ensures told { result ≡ answer (columns_book self.old) (Skip argument) }
-        ensures moved { columns_book self.new ≡ after (columns_book self.old) (Skip argument) }
-        ensures same_words { self.new.words.now ≡ self.old.words.now }
-    {
-        self.go(Order::Skip(argument))
+    fn give(&mut self, order: Order) -> Answer {
+        self.row = self.lead(order)?;
+        Ok(())
     }
 
     fn show(&self, column: i32) -> Shown {
         match column {
-            1 => Shown::Value(entry(self.words, 0, self.row)),
-            2 => Shown::Value(entry(self.words, 1, self.row)),
-            3 => Shown::Value(entry(self.words, 2, self.row)),
-            4 => Shown::Value(entry(self.words, 3, self.row)),
-            5 => Shown::Value(entry(self.words, 4, self.row)),
-            6 => Shown::Value(entry(self.words, 5, self.row)),
-            _ => Shown::NoColumn,
+            1 => Ok(entry(self.words, 0, self.row)),
+            2 => Ok(entry(self.words, 1, self.row)),
+            3 => Ok(entry(self.words, 2, self.row)),
+            4 => Ok(entry(self.words, 3, self.row)),
+            5 => Ok(entry(self.words, 4, self.row)),
+            6 => Ok(entry(self.words, 5, self.row)),
+            _ => Err(ShowError::NoColumn),
         }
     }
 
     fn would(&self, order: Order) -> Answer {
-        match self.lead(order) {
-            Ok(_) => Answer::Taken,
-            Err(why) => Answer::Refused(why),
-        }
-    }
-
-    fn give(&mut self, order: Order) -> Answer
-        ensures told { result ≡ answer (columns_book self.old) order }
-        ensures moved { columns_book self.new ≡ after (columns_book self.old) order }
-        ensures same_words { self.new.words.now ≡ self.old.words.now }
-    {
-        self.go(order)
+        self.lead(order)?;
+        Ok(())
     }
 }

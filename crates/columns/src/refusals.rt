@@ -1,6 +1,8 @@
 // Why a list of words is no column file.
-ghost use Rattle.std.specs.Prelude.{◌≡◌};
-ghost use Rattle.columns.specs.Numbers.{notice};
+ghost use Rattle.std.specs.Prelude.{◌≡◌, Some};
+ghost use Rattle.columns.specs.Numbers.{notice, refusal_text};
+
+use std::fmt;
 
 // The list ends inside the header or a count is out of range; the offset at a place is bad; the value at a place is bad.
 #[derive(Clone, Copy)]
@@ -31,5 +33,14 @@ impl FileRefusal {
             FileRefusal::Offset(place) => place,
             FileRefusal::Value(place) => place,
         }
+    }
+}
+
+// As editors know it: its number and its place.
+impl fmt::Display for FileRefusal {
+    ghost output = { λ e. Some (refusal_text e) };
+
+    fn fmt<W: fmt::Write>(&self, f: &mut fmt::Formatter<W>) -> fmt::Result {
+        write!(f, "{} at {}", self.number(), self.place())
     }
 }

@@ -17,7 +17,7 @@ fn main(rt: HostRuntime) -> io::Result<()> {
     for _ in 0..LIMIT {
         print_page(&rt, &engine)?;
         match engine.turn() {
-            Answer::Taken => {}
+            Ok(()) => {}
             answer => return print_number(&rt, answer),
         }
     }

@@ -1,16 +1,13 @@
 -- Pages and books, and what an engine answers by its book.
 use Rattle.std.specs.Prelude.{◌≡◌, ℕ, Bool, true, false, cond, List, [], ◌∷◌, ◌++◌, ℤ, pos, negsuc, Some, None, Ok, Err, Option, Result, ◌==◌}
-use Rattle.engine.specs.declared.Value.{Value as Datum}
-use Rattle.engine.specs.declared.Value.TheVariants.{Missing}
 use Rattle.engine.specs.declared.Values.{Values}
 use Rattle.engine.specs.declared.orders.Order.{Order}
 use Rattle.engine.specs.declared.answers.Fault.{Fault}
 use Rattle.engine.specs.declared.answers.Refusal.{Refusal}
-use Rattle.engine.specs.declared.answers.Answer.{Answer}
-use Rattle.engine.specs.declared.answers.Answer.TheVariants.{Taken, Refused, Halted}
-use Rattle.engine.specs.declared.answers.Shown.{Shown}
-use Rattle.engine.specs.declared.answers.Shown.TheVariants.{Value, NoColumn, Halted as ShownHalted}
-use Rattle.engine.specs.Values.{values_in_range}
+use Rattle.engine.specs.declared.answers.OrderError.TheVariants.{Refused, Halted}
+use Rattle.engine.specs.declared.answers.ShowError.TheVariants.{NoColumn, Halted as ShowHalted}
+use Rattle.engine.specs.Values.{Value, values_in_range}
+use Rattle.engine.specs.Answers.{Answer, Shown}
 
 -- A page is what an engine has to say where it stands: either six values together with the refusal that each order would meet,
 -- if any, or, once it has halted, nothing but the fault.
@@ -30,42 +27,42 @@ after b o = λ os. b (o ∷ os)
 -- an order that would be refused is answered so, and any other by `else`
 abbrev pub refused_or : Option Refusal → Answer → Answer
 refused_or None else = else
-refused_or (Some why) else = Refused why
+refused_or (Some why) else = Err (Refused why)
 
 -- the sequence in which an order is tried: a halted page answers by its fault, then comes the refusal, then what is given
 abbrev pub answer_on : Page → Order → Answer → Answer
 answer_on (live v w) o else = refused_or (w o) else
-answer_on (halted f) o else = Halted f
+answer_on (halted f) o else = Err (Halted f)
 
 -- what an order that is taken comes to, by the next page
 abbrev pub outcome : Page → Answer
-outcome (live v w) = Taken
-outcome (halted f) = Halted f
+outcome (live v w) = Ok tt
+outcome (halted f) = Err (Halted f)
 
 -- the answer to an order that is given, and to the question whether it would be taken, which does not look at the next page
 abbrev pub answer : Book → Order → Answer
 answer b o = answer_on (b []) o (outcome (b (o ∷ [])))
 
 abbrev pub foretold : Book → Order → Answer
-foretold b o = answer_on (b []) o Taken
+foretold b o = answer_on (b []) o (Ok tt)
 
 -- columns count from 1 to 6
 abbrev numbered : Values → ℕ → Shown
 numbered v n =
-    cond (n == 1) (Value v.c1)
-    (cond (n == 2) (Value v.c2)
-    (cond (n == 3) (Value v.c3)
-    (cond (n == 4) (Value v.c4)
-    (cond (n == 5) (Value v.c5)
-    (cond (n == 6) (Value v.c6) NoColumn)))))
+    cond (n == 1) (Ok v.c1)
+    (cond (n == 2) (Ok v.c2)
+    (cond (n == 3) (Ok v.c3)
+    (cond (n == 4) (Ok v.c4)
+    (cond (n == 5) (Ok v.c5)
+    (cond (n == 6) (Ok v.c6) (Err NoColumn))))))
 
 abbrev pub column : Values → ℤ → Shown
 column v (pos n) = numbered v n
-column v (negsuc n) = NoColumn
+column v (negsuc n) = Err NoColumn
 
 abbrev pub shown_on : Page → ℤ → Shown
 shown_on (live v w) c = column v c
-shown_on (halted f) c = ShownHalted f
+shown_on (halted f) c = Err (ShowHalted f)
 
 abbrev pub shown : Book → ℤ → Shown
 shown b c = shown_on (b []) c
@@ -75,10 +72,10 @@ abbrev pub reading : Page → Result Values Fault
 reading (live v w) = Ok v
 reading (halted f) = Err f
 
-abbrev pub shown_value : Shown → Result Datum Fault
-shown_value (Value x) = Ok x
-shown_value NoColumn = Ok Missing
-shown_value (ShownHalted f) = Err f
+abbrev pub shown_value : Shown → Result Value Fault
+shown_value (Ok x) = Ok x
+shown_value (Err NoColumn) = Ok None
+shown_value (Err (ShowHalted f)) = Err f
 
 abbrev pub is_live : Page → Bool
 is_live (live v w) = true

@@ -1,15 +1,14 @@
 -- Lists of calls on an engine, by its book; and books that are alike but for the watch and the rise of their faults.
-use Rattle.std.specs.Prelude.{◌≡◌, List, [], ◌∷◌}
+use Rattle.std.specs.Prelude.{◌≡◌, List, [], ◌∷◌, Ok, Err}
 use Rattle.engine.specs.declared.orders.Order.{Order}
 use Rattle.engine.specs.declared.orders.Call.{Call}
 use Rattle.engine.specs.declared.orders.Call.TheVariants.{Give, Show, Would}
 use Rattle.engine.specs.declared.answers.Fault.{Fault}
-use Rattle.engine.specs.declared.answers.Answer.{Answer}
-use Rattle.engine.specs.declared.answers.Answer.TheVariants.{Taken, Refused, Halted}
-use Rattle.engine.specs.declared.answers.Shown.{Shown}
-use Rattle.engine.specs.declared.answers.Shown.TheVariants.{Value, NoColumn, Halted as ShownHalted}
+use Rattle.engine.specs.declared.answers.OrderError.TheVariants.{Refused, Halted}
+use Rattle.engine.specs.declared.answers.ShowError.TheVariants.{NoColumn, Halted as ShowHalted}
 use Rattle.engine.specs.declared.answers.Reply.{Reply}
 use Rattle.engine.specs.declared.answers.Reply.TheVariants.{ToGive, ToShow, ToWould}
+use Rattle.engine.specs.Answers.{Answer, Shown}
 use Rattle.engine.specs.Books.{Page, live, halted, Book, after, answer, foretold, shown}
 
 -- the reply to a call, and the book after it: a question alters no page
@@ -37,14 +36,14 @@ abbrev pub fault_aside : Fault → Fault
 fault_aside f = record { watch = 0; row = f.row; rise = 0 }
 
 abbrev pub answer_aside : Answer → Answer
-answer_aside Taken = Taken
-answer_aside (Refused why) = Refused why
-answer_aside (Halted f) = Halted (fault_aside f)
+answer_aside (Ok x) = Ok x
+answer_aside (Err (Refused why)) = Err (Refused why)
+answer_aside (Err (Halted f)) = Err (Halted (fault_aside f))
 
 abbrev pub shown_aside : Shown → Shown
-shown_aside (Value v) = Value v
-shown_aside NoColumn = NoColumn
-shown_aside (ShownHalted f) = ShownHalted (fault_aside f)
+shown_aside (Ok v) = Ok v
+shown_aside (Err NoColumn) = Err NoColumn
+shown_aside (Err (ShowHalted f)) = Err (ShowHalted (fault_aside f))
 
 abbrev pub reply_aside : Reply → Reply
 reply_aside (ToGive a) = ToGive (answer_aside a)

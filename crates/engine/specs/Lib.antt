@@ -1,4 +1,6 @@
 pub mod Values
+pub mod Answers
+pub mod Texts
 pub mod Messages
 pub mod Books
 pub mod Calls

@@ -1,14 +1,13 @@
 -- The book of an engine that never halts by itself: states, what a state shows, and where an order leads from it.
 use Rattle.std.specs.Prelude.{◌≡◌, ℕ, ◌+◌, Bool, true, false, cond, ◌&&◌, List, [], ◌∷◌, ◌++◌, ℤ, pos, negsuc, Some, None, Ok, Err, Option, Result, int_le, nat_le, refl}
 use Rattle.std.proofs.Common.{sym, ap, ◌∙◌, arith}
-use Rattle.engine.specs.declared.Value.TheVariants.{Missing, Number}
 use Rattle.engine.specs.declared.Values.{Values}
 use Rattle.engine.specs.declared.orders.Order.{Order}
 use Rattle.engine.specs.declared.answers.Refusal.{Refusal}
 use Rattle.engine.specs.declared.answers.Refusal.TheVariants.{Argument, Past}
-use Rattle.engine.specs.declared.answers.Answer.{Answer}
-use Rattle.engine.specs.declared.answers.Answer.TheVariants.{Taken, Refused}
+use Rattle.engine.specs.declared.answers.OrderError.TheVariants.{Refused}
 use Rattle.engine.specs.Values.{in_range, value_of, value_in_range, values_in_range}
+use Rattle.engine.specs.Answers.{Answer}
 use Rattle.engine.specs.Books.{Page, live, Book, Lawful, answer, refused_or}
 
 -- what a state shows, and where an order leads from it or why it is refused
@@ -26,8 +25,8 @@ why_not (Ok t) = None
 why_not (Err why) = Some why
 
 abbrev pub answered : {S : Type 0} → Result S Refusal → Answer
-answered (Ok t) = Taken
-answered (Err why) = Refused why
+answered (Ok t) = Ok tt
+answered (Err why) = Err (Refused why)
 
 abbrev pub reached : {S : Type 0} → Mechanism S → S → List Order → S
 reached m s [] = s
@@ -61,7 +60,7 @@ onward last place a = cond (between 1 a 400) (up_to last (place + natural a)) (E
 -- numbers become values in range
 pub value_ranged : (z : ℤ) → value_in_range (value_of z) ≡ true
 value_ranged z = by (in_range z) refl where
-  by : (k : Bool) → in_range z ≡ k → value_in_range (cond k (Number z) Missing) ≡ true
+  by : (k : Bool) → in_range z ≡ k → value_in_range (cond k (Some z) None) ≡ true
   by true e = e
   by false e = refl
 
@@ -69,7 +68,7 @@ module _ {S : Type 0} (m : Mechanism S) where
   -- an order is answered by where it leads
   pub mechanism_answers : (s : S) (o : Order) → answer (book_from m s) o ≡ answered (m.leads s o)
   mechanism_answers s o = by (m.leads s o) where
-    by : (r : Result S Refusal) → refused_or (why_not r) Taken ≡ answered r
+    by : (r : Result S Refusal) → refused_or (why_not r) (Ok tt) ≡ answered r
     by (Ok t) = refl
     by (Err why) = refl
 

@@ -1,7 +1,5 @@
 -- Values, rows, and the rows that orders add.
 use Rattle.std.specs.Prelude.{ℕ, Bool, true, cond, ◌&&◌, ℤ, pos, negsuc, Some, None, Option, int_le}
-use Rattle.engine.specs.declared.Value.{Value}
-use Rattle.engine.specs.declared.Value.TheVariants.{Missing, Number}
 use Rattle.engine.specs.declared.Values.{Values}
 use Rattle.engine.specs.declared.Op.{Op}
 use Rattle.engine.specs.declared.Op.TheVariants.{First, Open as OpOpen, Turn as OpTurn, Skip as OpSkip}
@@ -9,17 +7,21 @@ use Rattle.engine.specs.declared.Row.{Row}
 use Rattle.engine.specs.declared.orders.Order.{Order}
 use Rattle.engine.specs.declared.orders.Order.TheVariants.{Open, Turn, Skip}
 
+-- a number, or none where the value is missing
+abbrev pub Value : Type 0
+Value = Option ℤ
+
 -- the numbers that values may have: those of at most 1,000,000,000 in size
 abbrev pub in_range : ℤ → Bool
 in_range z = int_le (negsuc 999999999) z && int_le z (pos 1000000000)
 
 -- a number of at most 1,000,000,000 in size is a value, any other is missing
 abbrev pub value_of : ℤ → Value
-value_of z = cond (int_le (negsuc 999999999) z && int_le z (pos 1000000000)) (Number z) Missing
+value_of z = cond (int_le (negsuc 999999999) z && int_le z (pos 1000000000)) (Some z) None
 
 abbrev pub value_in_range : Value → Bool
-value_in_range Missing = true
-value_in_range (Number z) = in_range z
+value_in_range None = true
+value_in_range (Some z) = in_range z
 
 abbrev pub values_in_range : Values → Bool
 values_in_range v =
@@ -44,9 +46,9 @@ op_of (Some Turn) = OpTurn
 op_of (Some (Skip a)) = OpSkip
 
 abbrev pub arg_of : Option Order → Value
-arg_of None = Missing
+arg_of None = None
 arg_of (Some (Open a)) = value_of a
-arg_of (Some Turn) = Missing
+arg_of (Some Turn) = None
 arg_of (Some (Skip a)) = value_of a
 
 -- the row that an order adds, or row 0, once the values of its page are known

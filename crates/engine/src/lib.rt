@@ -10,32 +10,28 @@ mod orders;
 mod places;
 mod showing;
 
-pub use answers::{Answer, Fault, Refusal, Reply, Shown};
+pub use answers::{Answer, Fault, OrderError, Refusal, Reply, ShowError, Shown};
 pub use interface::{Engine, read};
 pub use orders::{Call, Order};
 pub use places::{onward, opening};
+pub use showing::Cell;
 
-// A number that is at most 1,000,000,000 in size, or nothing.
-#[derive(Clone, Copy)]
-pub enum Value {
-    Missing,
-    Number(i32),
-}
+// A number that is at most 1,000,000,000 in size, or none where the value is missing.
+pub type Value = Option<i32>;
 
-impl Value {
-    // A value of any number: missing where the number is none that a value may have.
-    pub fn of(number: i32) -> Value
-        ensures { result ≡ value_of number }
-    {
-        if number < -1_000_000_000 || number > 1_000_000_000 {
-            return Value::Missing;
-        }
-        Value::Number(number)
+// The value that a number is: missing where the number is none that a value may have.
+pub fn value(number: i32) -> Value
+    ensures { result ≡ value_of number }
+{
+    if (-1_000_000_000..=1_000_000_000).contains(&number) {
+        Some(number)
+    } else {
+        None
     }
 }
 
 // The six columns of a page or a row.
-#[derive(Clone, Copy)]
+#[derive(Clone, Copy, Debug, Default, PartialEq, Eq)]
 pub struct Values {
     pub c1: Value,
     pub c2: Value,
@@ -46,8 +42,9 @@ pub struct Values {
 }
 
 // How a row came about: as the first one, or by an order.
-#[derive(Clone, Copy)]
+#[derive(Clone, Copy, Debug, Default, PartialEq, Eq)]
 pub enum Op {
+    #[default]
     First,
     Open,
     Turn,
@@ -55,7 +52,7 @@ pub enum Op {
 }
 
 // What a watch keeps of a day: the order that led there, its argument, and the page's values.
-#[derive(Clone, Copy)]
+#[derive(Clone, Copy, Debug, Default, PartialEq, Eq)]
 pub struct Row {
     pub op: Op,
     pub arg: Value,
@@ -67,8 +64,6 @@ impl Row {
     pub fn write(&mut self, op: Op, arg: Value, values: Values)
         ensures { self.new ≡ row_with op arg values }
     {
-        self.op = op;
-        self.arg = arg;
-        self.values = values;
+        *self = Row { op, arg, values };
     }
 }

@@ -2,10 +2,10 @@
 ghost use Rattle.std.specs.Prelude.{◌≡◌, Some};
 ghost use Rattle.engine.specs.Values.{op_of, arg_of};
 
-use crate::{Op, Value};
+use crate::{Op, Value, value};
 
 // An order: open at an argument, turn by one, or skip forward by an argument.
-#[derive(Clone, Copy)]
+#[derive(Clone, Copy, Debug, PartialEq, Eq)]
 pub enum Order {
     Open(i32),
     Turn,
@@ -29,15 +29,15 @@ impl Order {
         ensures { result ≡ arg_of (Some self) }
     {
         match self {
-            Order::Open(argument) => Value::of(argument),
-            Order::Turn => Value::Missing,
-            Order::Skip(argument) => Value::of(argument),
+            Order::Open(argument) => value(argument),
+            Order::Turn => None,
+            Order::Skip(argument) => value(argument),
         }
     }
 }
 
 // An order that is given, or one of the two questions: what a column shows, and whether an order would be taken.
-#[derive(Clone, Copy)]
+#[derive(Clone, Copy, Debug, PartialEq, Eq)]
 pub enum Call {
     Give(Order),
     Show(i32),

@@ -1,8 +1,7 @@
 -- Rows that pass rules, from the bytes of the rules on.
-use Rattle.std.proofs.Common.{◌≡◌, not, T, List, [], ◌∷◌, pos, Some, codes, sym, refl, subst, arith}
+use Rattle.std.proofs.Common.{◌≡◌, not, T, List, [], ◌∷◌, pos, Some, None, codes, sym, refl, subst, arith}
 use Rattle.engine.specs.declared.Row.{Row}
-use Rattle.engine.specs.declared.Value.{Value}
-use Rattle.engine.specs.declared.Value.TheVariants.{Missing}
+use Rattle.engine.specs.Values.{Value}
 use Rattle.grammar.specs.declared.Field.TheVariants.{C6}
 use Rattle.grammar.specs.declared.Name.TheVariants.{Plain}
 use Rattle.grammar.specs.declared.Relation.TheVariants.{Equal}
@@ -13,7 +12,7 @@ use Rattle.grammar.specs.Tree.{Claim, empty, claim, negation, comparison, first}
 use Rattle.grammar.specs.Cutting.{Placed, placed, symbols, Cut, cut_end, cut_space, cut_token}
 use Rattle.grammar.proofs.Lexemes.{word_longest, number_longest, one_longest}
 use Rattle.grammar.proofs.Sound.{run_rule}
-use Rattle.matching.specs.Truth.{number_in, signed_by, compared}
+use Rattle.matching.specs.Truth.{signed_by, compared}
 use Rattle.matching.specs.Fits.{fits_empty, fits_claim}
 use Rattle.matching.specs.Passing.{PassesRule}
 use Rattle.examples.specs.Examples.{LetsBy, Any, NoColumn6}
@@ -58,8 +57,8 @@ unequal_cut =
     (cut_token (one_longest 93 [] RightSquare refl refl).0 refl cut_end))))))))
 
 -- a missing side makes the comparison false
-missing_true : (v : Value) → v ≡ Missing → T (not (compared Equal (signed_by Plus (number_in v)) (Some (pos 1))))
-missing_true v e = subst (λ (x : Value). T (not (compared Equal (signed_by Plus (number_in x)) (Some (pos 1))))) (sym e) tt
+missing_true : (v : Value) → v ≡ None → T (not (compared Equal (signed_by Plus v) (Some (pos 1))))
+missing_true v e = subst (λ (x : Value). T (not (compared Equal (signed_by Plus x) (Some (pos 1))))) (sym e) tt
 
 unequal_passes : (rows : List Row) → NoColumn6 rows → PassesRule (claim unequal) rows
 unfolding unequal

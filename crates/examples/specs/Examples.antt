@@ -1,7 +1,6 @@
 -- The worked examples, in one statement. It grows with the layers.
-use Rattle.std.specs.Prelude.{◌≡◌, ℕ, List, [], ◌∷◌, ℤ, codes}
+use Rattle.std.specs.Prelude.{◌≡◌, ℕ, List, [], ◌∷◌, ℤ, None, codes}
 use Rattle.engine.specs.declared.Row.{Row}
-use Rattle.engine.specs.declared.Value.TheVariants.{Missing}
 use Rattle.grammar.specs.declared.Refusal.{Refusal}
 use Rattle.grammar.specs.Numbers.{number_of, place_of}
 use Rattle.grammar.specs.Tree.{Pattern, claim, truth}
@@ -27,7 +26,7 @@ Any rows = Unit {0}
 -- there is a newest row, and its column 6 is missing
 abbrev pub NoColumn6 : List Row → Type 0
 NoColumn6 [] = ⊥
-NoColumn6 (newest ∷ older) = newest.values.c6 ≡ Missing
+NoColumn6 (newest ∷ older) = newest.values.c6 ≡ None
 
 pub record Examples : Type 0 where
   pub always_true : ReadAs (claim truth) (codes "[true]")

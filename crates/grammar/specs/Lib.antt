@@ -3,6 +3,7 @@ pub mod Tree
 pub mod Claims
 pub mod Patterns
 pub mod Viable
+pub mod Texts
 pub mod Spelling
 pub mod Marks
 pub mod Cutting

@@ -1,5 +1,5 @@
 -- The number and the place of each refusal, as an editor sees them.
-use Rattle.std.specs.Prelude.{ℕ}
+use Rattle.std.specs.Prelude.{ℕ, List, ◌++◌, codes, decimal}
 use Rattle.grammar.specs.declared.Refusal.{Refusal}
 use Rattle.grammar.specs.declared.Refusal.TheVariants.{WatchNumber, TextTooLong, NotAToken, TooManyTokens, TooDeep, TooManyClaims, Unexpected}
 
@@ -20,3 +20,6 @@ place_of (TooManyTokens p) = p
 place_of (TooDeep p) = p
 place_of (TooManyClaims p) = p
 place_of (Unexpected p) = p
+
+abbrev pub refusal_text : Refusal → List ℕ
+refusal_text e = decimal (number_of e) ++ (codes " at " ++ decimal (place_of e))

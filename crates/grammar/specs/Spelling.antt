@@ -1,7 +1,8 @@
 -- How each token is written.
 use Rattle.std.specs.Prelude.{◌≡◌, ℕ, ◌+◌, ◌-◌, ◌*◌, ◌≤◌, Bool, true, false, ◌||◌, T, List, [], ◌∷◌, codes}
 use Rattle.std.specs.Char.{is_ascii_digit, is_ascii_alphabetic}
-use Rattle.grammar.specs.Symbol.{Plus, Minus, Equal, NotEqual, Less, LessOrEqual, Greater, GreaterOrEqual, Op, Arg, C1, C2, C3, C4, C5, C6, Symbol, LeftSquare, RightSquare, LeftRound, RightRound, Bar, Dot, Star, Underscore, Quote, Arrow, And, Or, Not, Has, True, Additive, Relational, Number, FieldName}
+use Rattle.grammar.specs.Symbol.{Symbol, LeftSquare, RightSquare, LeftRound, RightRound, Bar, Dot, Star, Underscore, Quote, Arrow, And, Or, Not, Has, True, Additive, Relational, Number, FieldName}
+use Rattle.grammar.specs.Texts.{sign_text, relation_text, field_text}
 
 -- the byte of a space
 abbrev pub space : ℕ
@@ -51,23 +52,10 @@ Spells Or w = w ≡ codes "or"
 Spells Not w = w ≡ codes "not"
 Spells Has w = w ≡ codes "has"
 Spells True w = w ≡ codes "true"
-Spells (Additive Plus) w = w ≡ codes "+"
-Spells (Additive Minus) w = w ≡ codes "-"
-Spells (Relational Equal) w = w ≡ codes "="
-Spells (Relational NotEqual) w = w ≡ codes "<>"
-Spells (Relational Less) w = w ≡ codes "<"
-Spells (Relational LessOrEqual) w = w ≡ codes "<="
-Spells (Relational Greater) w = w ≡ codes ">"
-Spells (Relational GreaterOrEqual) w = w ≡ codes ">="
+Spells (Additive d) w = w ≡ sign_text d
+Spells (Relational r) w = w ≡ relation_text r
 Spells (Number n) w = Digits w × (valued 0 w ≡ n) × (n ≤ greatest)
-Spells (FieldName Op) w = w ≡ codes "op"
-Spells (FieldName Arg) w = w ≡ codes "arg"
-Spells (FieldName C1) w = w ≡ codes "c1"
-Spells (FieldName C2) w = w ≡ codes "c2"
-Spells (FieldName C3) w = w ≡ codes "c3"
-Spells (FieldName C4) w = w ≡ codes "c4"
-Spells (FieldName C5) w = w ≡ codes "c5"
-Spells (FieldName C6) w = w ≡ codes "c6"
+Spells (FieldName f) w = w ≡ field_text f
 
 -- marks are the symbols that are neither words nor numbers
 abbrev pub mark : Symbol → Bool

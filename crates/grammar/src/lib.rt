@@ -8,15 +8,17 @@ ghost use Rattle.std.specs.Prelude.{◌≡◌};
 ghost use Rattle.grammar.specs.Numbers.{number_of, place_of};
 ghost use Rattle.grammar.specs.Theorems.{OneTree, NeverBoth, OneRefusal};
 
+mod text;
+
 // The sign before a term of a sum.
-#[derive(Clone, Copy, Debug, PartialEq)]
+#[derive(Clone, Copy, Debug, PartialEq, Eq)]
 pub enum Sign {
     Plus,
     Minus,
 }
 
 // What a comparison asks of its two sums.
-#[derive(Clone, Copy, Debug, PartialEq)]
+#[derive(Clone, Copy, Debug, PartialEq, Eq)]
 pub enum Relation {
     Equal,
     NotEqual,
@@ -27,7 +29,7 @@ pub enum Relation {
 }
 
 // A field of a row: the order that made it, that order's argument, and the six columns.
-#[derive(Clone, Copy, Debug, PartialEq)]
+#[derive(Clone, Copy, Debug, PartialEq, Eq)]
 pub enum Field {
     Op,
     Arg,
@@ -40,10 +42,8 @@ pub enum Field {
 }
 
 // Which token it is. A number's value is not part of its tag.
-#[derive(Clone, Copy, Debug, PartialEq)]
+#[derive(Clone, Copy, Debug, PartialEq, Eq)]
 pub enum Tag {
-    // what stands after the last token of a text; no token has it
-    End,
     LeftSquare,
     RightSquare,
     LeftRound,
@@ -66,21 +66,21 @@ pub enum Tag {
 }
 
 // A name reads a field of the row being matched, or, with `'` after it, of the newest row.
-#[derive(Clone, Copy, Debug, PartialEq)]
+#[derive(Clone, Copy, Debug, PartialEq, Eq)]
 pub enum Name {
     Plain(Field),
     Newest(Field),
 }
 
 // A term of a sum.
-#[derive(Clone, Copy, Debug, PartialEq)]
+#[derive(Clone, Copy, Debug, PartialEq, Eq)]
 pub enum Term {
     Constant(u32),
     Named(Name),
 }
 
 // Why a text is not read. A place is a count of the bytes before the thing.
-#[derive(Clone, Copy, Debug, PartialEq)]
+#[derive(Clone, Copy, Debug, PartialEq, Eq)]
 pub enum Refusal {
     // the watch number is outside 1 to 65,535
     WatchNumber,

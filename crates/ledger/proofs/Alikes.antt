@@ -1,10 +1,9 @@
 -- Books that are alike answer every call alike.
-use Rattle.std.proofs.Common.{◌≡◌, List, [], ◌∷◌, map, ℤ, Some, None, Option, sym, refl, ap, ◌∙◌, ap₂}
+use Rattle.std.proofs.Common.{◌≡◌, List, [], ◌∷◌, map, ℤ, Some, None, Ok, Option, sym, refl, ap, ◌∙◌, ap₂}
 use Rattle.engine.specs.declared.orders.Order.{Order}
 use Rattle.engine.specs.declared.orders.Call.{Call}
 use Rattle.engine.specs.declared.orders.Call.TheVariants.{Give, Show, Would}
 use Rattle.engine.specs.declared.answers.Refusal.{Refusal}
-use Rattle.engine.specs.declared.answers.Answer.TheVariants.{Taken}
 use Rattle.engine.specs.declared.answers.Reply.TheVariants.{ToGive, ToShow, ToWould}
 use Rattle.engine.specs.Books.{Page, live, halted, Book, answer_on, refused_or, outcome, shown_on, takes}
 use Rattle.engine.specs.Calls.{Alike, reply, book_after, replies, answer_aside, shown_aside, reply_aside, page_aside}
@@ -18,7 +17,7 @@ ordered_aside (live v w) o next = by (w o) next where
   by None (live v w) = refl
   by None (halted f) = refl
 
-foretold_aside : (p : Page) (o : Order) → answer_aside (answer_on p o Taken) ≡ answer_aside (answer_on (page_aside p) o Taken)
+foretold_aside : (p : Page) (o : Order) → answer_aside (answer_on p o (Ok tt)) ≡ answer_aside (answer_on (page_aside p) o (Ok tt))
 foretold_aside (live v w) o = refl
 foretold_aside (halted f) o = refl
 
@@ -36,7 +35,7 @@ reply_alike b d same (Give o) =
     ∙ ap₂ (λ p q. answer_aside (answer_on p o (outcome q))) (same []) (same (o ∷ []))
     ∙ sym (ordered_aside (d []) o (d (o ∷ []))))
 reply_alike b d same (Show c) = ap ToShow (show_aside (b []) c ∙ ap (λ p. shown_aside (shown_on p c)) (same []) ∙ sym (show_aside (d []) c))
-reply_alike b d same (Would o) = ap ToWould (foretold_aside (b []) o ∙ ap (λ p. answer_aside (answer_on p o Taken)) (same []) ∙ sym (foretold_aside (d []) o))
+reply_alike b d same (Would o) = ap ToWould (foretold_aside (b []) o ∙ ap (λ p. answer_aside (answer_on p o (Ok tt))) (same []) ∙ sym (foretold_aside (d []) o))
 
 after_alike : (b d : Book) → Alike b d → (c : Call) → Alike (book_after b c) (book_after d c)
 after_alike b d same (Give o) = λ os. same (o ∷ os)

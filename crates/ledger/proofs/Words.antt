@@ -1,12 +1,11 @@
 -- What a ledger answers.
-use Rattle.std.proofs.Common.{◌≡◌, ℕ, cond, List, [], ◌∷◌, ◌++◌, Some, None, Option, refl, ap, ◌∙◌, ap₂}
+use Rattle.std.proofs.Common.{◌≡◌, ℕ, cond, List, [], ◌∷◌, ◌++◌, Some, None, Ok, Option, refl, ap, ◌∙◌, ap₂}
 use Rattle.engine.specs.declared.Values.{Values}
 use Rattle.engine.specs.declared.Row.{Row}
 use Rattle.engine.specs.declared.orders.Order.{Order}
 use Rattle.engine.specs.declared.answers.Fault.{Fault}
 use Rattle.engine.specs.declared.answers.Refusal.{Refusal}
 use Rattle.engine.specs.declared.answers.Refusal.TheVariants.{Full}
-use Rattle.engine.specs.declared.answers.Answer.TheVariants.{Taken}
 use Rattle.engine.specs.Values.{row_of}
 use Rattle.engine.specs.Books.{Page, live, halted, Book, answer, answer_on, shown_on, refused_or, outcome, none, takes}
 use Rattle.ledger.specs.Ledger.{Watcher, Ledger, ledger_from, counted, kept, faulted, took, page_of, page_over, unless, filled, verdict, halting}
@@ -40,10 +39,10 @@ module _ (ws : List Watcher) (b : Book) (l : Ledger) where
   pub says : Says ws b l
   says = record {
     halted_order = λ f e o. ap (λ fo. answer_on (unless fo over) o (outcome (ledger_from ws b l (o ∷ [])))) e;
-    halted_would = λ f e o. ap (λ fo. answer_on (unless fo over) o Taken) e;
+    halted_would = λ f e o. ap (λ fo. answer_on (unless fo over) o (Ok tt)) e;
     halted_show = λ f e c. ap (λ fo. shown_on (unless fo over) c) e;
     live_show = λ v w k on c. ap (λ p. shown_on p c) (page v w k on);
-    live_would = λ v w k on o. ap (λ p. answer_on p o Taken) (page v w k on);
+    live_would = λ v w k on o. ap (λ p. answer_on p o (Ok tt)) (page v w k on);
     live_order = λ v w k on o. on_order v w k on o;
   }
 

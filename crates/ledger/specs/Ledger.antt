@@ -1,14 +1,14 @@
 -- The ledger of a pile: what the pile ought to answer. It is worked out from the engine's book as it was before any watch stood over
 -- it, from the watches (innermost first) and from the orders given. What the watches themselves store does not enter into it.
-use Rattle.std.specs.Prelude.{ℕ, ◌+◌, ◌-◌, min, Bool, false, cond, ◌||◌, List, [], ◌∷◌, ◌++◌, Some, None, Option, nat_le}
+use Rattle.std.specs.Prelude.{ℕ, ◌+◌, ◌-◌, min, Bool, false, cond, ◌||◌, List, [], ◌∷◌, ◌++◌, Some, None, Ok, Err, Option, nat_le}
 use Rattle.engine.specs.declared.Values.{Values}
 use Rattle.engine.specs.declared.Row.{Row}
 use Rattle.engine.specs.declared.orders.Order.{Order}
 use Rattle.engine.specs.declared.answers.Fault.{Fault}
 use Rattle.engine.specs.declared.answers.Refusal.TheVariants.{Full}
-use Rattle.engine.specs.declared.answers.Answer.{Answer}
-use Rattle.engine.specs.declared.answers.Answer.TheVariants.{Taken, Halted}
+use Rattle.engine.specs.declared.answers.OrderError.TheVariants.{Halted}
 use Rattle.engine.specs.Values.{row_of}
+use Rattle.engine.specs.Answers.{Answer}
 use Rattle.engine.specs.Books.{Page, live, halted, Book, takes}
 use Rattle.grammar.specs.Tree.{Pattern}
 use Rattle.matching.specs.Passing.{tried}
@@ -102,8 +102,8 @@ ran ws b l (o ∷ os) = ran ws b (ordered ws b l o) os
 
 -- what is answered where a fault has just come, or none
 abbrev pub halting : Option Fault → Answer
-halting None = Taken
-halting (Some f) = Halted f
+halting None = Ok tt
+halting (Some f) = Err (Halted f)
 
 -- the book of a ledger from where it stands, and from its start
 abbrev pub ledger_from : List Watcher → Book → Ledger → Book

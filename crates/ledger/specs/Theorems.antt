@@ -1,5 +1,5 @@
 -- What holds of every pile, by its book and its ledger.
-use Rattle.std.specs.Prelude.{◌≡◌, ℕ, ◌+◌, min, cond, T, ◌⊎◌, List, [], ◌∷◌, ◌++◌, map, length, ℤ, Some, None, Option}
+use Rattle.std.specs.Prelude.{◌≡◌, ℕ, ◌+◌, min, cond, T, ◌⊎◌, List, [], ◌∷◌, ◌++◌, map, length, ℤ, Some, None, Ok, Err, Option}
 use mathlib.Core.List.{Permᴰ}
 use Rattle.engine.specs.declared.Values.{Values}
 use Rattle.engine.specs.declared.Row.{Row}
@@ -8,8 +8,8 @@ use Rattle.engine.specs.declared.orders.Call.{Call}
 use Rattle.engine.specs.declared.answers.Fault.{Fault}
 use Rattle.engine.specs.declared.answers.Refusal.{Refusal}
 use Rattle.engine.specs.declared.answers.Refusal.TheVariants.{Full}
-use Rattle.engine.specs.declared.answers.Answer.TheVariants.{Taken, Halted}
-use Rattle.engine.specs.declared.answers.Shown.TheVariants.{Halted as ShownHalted}
+use Rattle.engine.specs.declared.answers.OrderError.TheVariants.{Halted}
+use Rattle.engine.specs.declared.answers.ShowError.TheVariants.{Halted as ShowHalted}
 use Rattle.engine.specs.Values.{row_of}
 use Rattle.engine.specs.Books.{Page, live, halted, Book, Lawful, after, answer, foretold, shown, column, refused_or, reading, is_live, takes}
 use Rattle.engine.specs.Calls.{Alike, replies, reply_aside}
@@ -20,12 +20,12 @@ use Rattle.ledger.specs.Ledger.{Watcher, Ledger, ledger, ledger_from, took, kept
 -- What a ledger answers: by its fault if it has one; else show by the page, and an order by 21 once the rows fill some watch, then
 -- by its refusal on the page, then by what it comes to.
 pub record Says (ws : List Watcher) (b : Book) (l : Ledger) : Type 0 where
-  pub halted_order : (f : Fault) → l.fault ≡ Some f → (o : Order) → answer (ledger_from ws b l) o ≡ Halted f
-  pub halted_would : (f : Fault) → l.fault ≡ Some f → (o : Order) → foretold (ledger_from ws b l) o ≡ Halted f
-  pub halted_show : (f : Fault) → l.fault ≡ Some f → (c : ℤ) → shown (ledger_from ws b l) c ≡ ShownHalted f
+  pub halted_order : (f : Fault) → l.fault ≡ Some f → (o : Order) → answer (ledger_from ws b l) o ≡ Err (Halted f)
+  pub halted_would : (f : Fault) → l.fault ≡ Some f → (o : Order) → foretold (ledger_from ws b l) o ≡ Err (Halted f)
+  pub halted_show : (f : Fault) → l.fault ≡ Some f → (c : ℤ) → shown (ledger_from ws b l) c ≡ Err (ShowHalted f)
   pub live_show : (v : Values) (w : Order → Option Refusal) → l.fault ≡ None → b l.taken ≡ live v w → (c : ℤ) → shown (ledger_from ws b l) c ≡ column v c
   pub live_would : (v : Values) (w : Order → Option Refusal) → l.fault ≡ None → b l.taken ≡ live v w → (o : Order)
-      → foretold (ledger_from ws b l) o ≡ refused_or (cond (filled ws l.count) (Some Full) (w o)) Taken
+      → foretold (ledger_from ws b l) o ≡ refused_or (cond (filled ws l.count) (Some Full) (w o)) (Ok tt)
   pub live_order : (v : Values) (w : Order → Option Refusal) → l.fault ≡ None → b l.taken ≡ live v w → (o : Order)
       → answer (ledger_from ws b l) o ≡ refused_or (cond (filled ws l.count) (Some Full) (w o)) (halting (took ws b l o).fault)
 

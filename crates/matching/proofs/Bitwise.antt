@@ -1,95 +1,42 @@
 -- Bits of sets of claims.
-use Rattle.std.proofs.Common.{◌≡◌, ℕ, zero, suc, ◌+◌, ◌-◌, ◌*◌, ◌/◌, ◌%◌, ◌^◌, ◌<◌, Bool, true, false, not, ◌||◌, eqb, sym, refl, ap, ◌∙◌, mod-lt, one-mul, pow-suc, zero-mul, arith, lit<, pow_pos, pow-add, eq-eqb, ne_eqb}
-use native.Mathlib.Nat.{zero-div, div-eq_of_lt, mul-mod_left}
-use native.Mathlib.Decide.{dec_lt}
-use lib.Arith.{bin_ind}
-use lib.Pow.{pow-lt, shl-shr}
-use lib.Bits.{bit_and, bit_or, or_shr, or_mod, or_add_and, and_le_l, and_comm, and_zero_r, and_high, and_shr, and_mod}
+use Rattle.std.proofs.Common.{◌≡◌, ℕ, ◌*◌, ◌^◌, ◌<◌, min, max, false, not, ◌||◌, eqb, ap, ◌∙◌, arith, bit_and, bit_or, pow_pos}
+use Rattle.std.specs.Int.{bit_at}
+use Rattle.std.specs.Int.Bits.{and_zero_r, or_add_and}
+use Rattle.std.proofs.lemmas.Nat.{and_le_l, and_le_r}
+use Rattle.std.proofs.lemmas.Bool.Decides.{nat_tests}
+use Rattle.std.proofs.lemmas.Nat.Bits.{and_pow, bit_at-lt, bit_at-zero, bit_at_and, bit_at_or, bit_at-pow_same, bit_at-pow_other, same_from_bits}
 use Rattle.matching.specs.Marks.{bit, meets}
 
-digit_or : (u v : ℕ) → u < 2 → v < 2 → eqb (bit_or u v) 1 ≡ (eqb u 1 || eqb v 1)
-digit_or zero v hu hv = refl
-digit_or (suc zero) zero hu hv = refl
-digit_or (suc zero) (suc zero) hu hv = refl
-digit_or (suc zero) (suc (suc v)) hu hv = absurd (omega arith)
-digit_or (suc (suc u)) v hu hv = absurd (omega arith)
+max_or : (u v : ℕ) → u < 2 → v < 2 → eqb (max u v) 1 ≡ (eqb u 1 || eqb v 1)
+max_or u v h g = grind (arith, nat_tests)
 
 pub bit_of_or : (a b k : ℕ) → bit (bit_or a b) k ≡ (bit a k || bit b k)
-bit_of_or a b k =
-    ap (λ (n : ℕ). eqb (n % 2) 1) (or_shr a b k)
-    ∙ ap (λ (n : ℕ). eqb n 1) (or_mod (a / 2 ^ k) (b / 2 ^ k) 1)
-    ∙ digit_or (a / 2 ^ k % 2) (b / 2 ^ k % 2) (mod-lt (a / 2 ^ k) (lit< tt)) (mod-lt (b / 2 ^ k) (lit< tt))
+bit_of_or a b k = ap (λ n. eqb n 1) (bit_at_or a b k) ∙ max_or (bit_at a k) (bit_at b k) (bit_at-lt a k) (bit_at-lt b k)
 
 pub bit_none : (k : ℕ) → bit 0 k ≡ false
-bit_none k = ap (λ (n : ℕ). eqb (n % 2) 1) (zero-div (2 ^ k))
+bit_none k = ap (λ n. eqb n 1) (bit_at-zero k)
 
 pub bit_one : (j k : ℕ) → bit (2 ^ j) k ≡ eqb k j
-bit_one j k = go (dec_lt k j) (dec_lt j k)
-  where
-    below : k < j → bit (2 ^ j) k ≡ false
-    below h =
-        let d = j - suc k in
-        let e : j ≡ suc d + k = omega arith in
-        let p : 2 ^ j / 2 ^ k ≡ 2 ^ d * 2 =
-        ap (λ (n : ℕ). 2 ^ n / 2 ^ k) e ∙ ap (λ (n : ℕ). n / 2 ^ k) (pow-add 2 (suc d) k) ∙ shl-shr (2 ^ suc d) k ∙ pow-suc 2 d in
-        ap (λ (n : ℕ). eqb (n % 2) 1) p ∙ ap (λ (n : ℕ). eqb n 1) (mul-mod_left (2 ^ d) 2)
+bit_one j k = grind (arith, nat_tests, bit_at-pow_same j, bit_at-pow_other j k)
 
-    above : j < k → bit (2 ^ j) k ≡ false
-    above h = ap (λ (n : ℕ). eqb (n % 2) 1) (div-eq_of_lt (pow-lt h))
+min_max : (a b c : ℕ) → min a (max b c) ≡ max (min a b) (min a c)
+min_max a b c = omega arith
 
-    same : j ≡ k → bit (2 ^ j) k ≡ true
-    same e = ap (λ (n : ℕ). eqb (2 ^ n / 2 ^ k % 2) 1) e ∙ ap (λ (n : ℕ). eqb (n % 2) 1) (ap (λ (n : ℕ). n / 2 ^ k) (sym (one-mul (2 ^ k))) ∙ shl-shr 1 k)
-
-    go : Dec (k < j) → Dec (j < k) → bit (2 ^ j) k ≡ eqb k j
-    go (yes h) d = below h ∙ sym (ne_eqb k j (λ e. omega arith))
-    go (no h) (yes g) = above g ∙ sym (ne_eqb k j (λ e. omega arith))
-    go (no h) (no g) = let e : j ≡ k = omega arith in same e ∙ sym (eq-eqb k j (sym e))
-
--- bit_and over bit_or
-digit_and_or : (x y z : ℕ) → x < 2 → y < 2 → z < 2 → bit_and x (bit_or y z) ≡ bit_or (bit_and x y) (bit_and x z)
-digit_and_or zero y z hx hy hz = refl
-digit_and_or (suc zero) zero z hx hy hz = refl
-digit_and_or (suc zero) (suc zero) zero hx hy hz = refl
-digit_and_or (suc zero) (suc zero) (suc zero) hx hy hz = refl
-digit_and_or (suc zero) (suc zero) (suc (suc z)) hx hy hz = absurd (omega arith)
-digit_and_or (suc zero) (suc (suc y)) z hx hy hz = absurd (omega arith)
-digit_and_or (suc (suc x)) y z hx hy hz = absurd (omega arith)
-
-halved : (a b : ℕ) → a / 2 ≡ b / 2 → a % 2 ≡ b % 2 → a ≡ b
-halved a b p q = omega arith
-
-pub and_or : (m a b : ℕ) → bit_and m (bit_or a b) ≡ bit_or (bit_and m a) (bit_and m b)
-and_or =
-    bin_ind (λ (n : ℕ). (a b : ℕ) → bit_and n (bit_or a b) ≡ bit_or (bit_and n a) (bit_and n b)) (λ a b. refl)
-    (λ n ih a b. halved (bit_and n (bit_or a b)) (bit_or (bit_and n a) (bit_and n b))
-    (and_shr n (bit_or a b) 1 ∙ ap (bit_and (n / 2)) (or_shr a b 1) ∙ ih (a / 2) (b / 2)
-    ∙ sym (or_shr (bit_and n a) (bit_and n b) 1 ∙ ap (λ (x : ℕ). bit_or x (bit_and n b / 2)) (and_shr n a 1)
-    ∙ ap (bit_or (bit_and (n / 2) (a / 2))) (and_shr n b 1)))
-    (and_mod n (bit_or a b) 1 ∙ ap (bit_and (n % 2)) (or_mod a b 1)
-    ∙ digit_and_or (n % 2) (a % 2) (b % 2) (mod-lt n (lit< tt)) (mod-lt a (lit< tt)) (mod-lt b (lit< tt))
-    ∙ sym (or_mod (bit_and n a) (bit_and n b) 1 ∙ ap (λ (x : ℕ). bit_or x (bit_and n b % 2)) (and_mod n a 1)
-    ∙ ap (bit_or (bit_and (n % 2) (a % 2))) (and_mod n b 1))))
+and_or : (m a b : ℕ) → bit_and m (bit_or a b) ≡ bit_or (bit_and m a) (bit_and m b)
+and_or m a b = same_from_bits _ _ (λ i. simp (bit_at_and, bit_at_or) (min_max (bit_at m i) (bit_at a i) (bit_at b i)))
 
 some_or : (x y : ℕ) → not (eqb (bit_or x y) 0) ≡ (not (eqb x 0) || not (eqb y 0))
-some_or zero y = refl
-some_or (suc x) y =
-    ap not (ne_eqb (bit_or (suc x) y) 0 (λ e. omega (arith, or_add_and (suc x) y, and_le_l y (suc x), and_comm y (suc x))))
-    ∙ sym (ap (λ (b : Bool). not b || not (eqb y 0)) (ne_eqb (suc x) 0 (λ e. omega arith)))
+some_or x y = grind (arith, nat_tests, or_add_and x y, and_le_l x y, and_le_r x y)
 
 -- the laws of `meets`
 pub meets_none : (m : ℕ) → meets m 0 ≡ false
-meets_none m = ap (λ (n : ℕ). not (eqb n 0)) (and_zero_r m)
+meets_none m = ap (λ n. not (eqb n 0)) (and_zero_r m)
 
 pub meets_or : (m a b : ℕ) → meets m (bit_or a b) ≡ (meets m a || meets m b)
-meets_or m a b = ap (λ (n : ℕ). not (eqb n 0)) (and_or m a b) ∙ some_or (bit_and m a) (bit_and m b)
+meets_or m a b = ap (λ n. not (eqb n 0)) (and_or m a b) ∙ some_or (bit_and m a) (bit_and m b)
 
 scaled : (d p : ℕ) → d < 2 → 0 < p → not (eqb (d * p) 0) ≡ eqb d 1
-scaled zero p hd hp = ap (λ (n : ℕ). not (eqb n 0)) (zero-mul p)
-scaled (suc zero) p hd hp = ap not (ne_eqb (1 * p) 0 (λ e. omega (arith, one-mul p)))
-scaled (suc (suc d)) p hd hp = absurd (omega arith)
+scaled d p h g = grind (arith, nat_tests)
 
 pub meets_one : (m k : ℕ) → meets m (2 ^ k) ≡ bit m k
-meets_one m k =
-    let p : 2 ^ (1 + k) - 2 ^ k ≡ 2 ^ k = omega (arith, pow-add 2 1 k) in
-    ap (λ (n : ℕ). not (eqb n 0)) (ap (bit_and m) (sym p) ∙ and_high m 1 k)
-    ∙ scaled (m / 2 ^ k % 2) (2 ^ k) (mod-lt (m / 2 ^ k) (lit< tt)) (pow_pos k)
+meets_one m k = ap (λ n. not (eqb n 0)) (and_pow m k) ∙ scaled (bit_at m k) (2 ^ k) (bit_at-lt m k) (pow_pos k)

@@ -1,75 +1,69 @@
 -- One row's walk at a node, from what it is at the parts.
-use Rattle.std.proofs.Common.{◌≡◌, ℕ, ◌+◌, ◌≤◌, Bool, ◌&&◌, ◌||◌, List, sym, refl, ap, ◌∙◌, subst, ap₂, arith}
-use lib.Bits.{bit_or}
-use Rattle.engine.specs.declared.Row.{Row}
-use Rattle.grammar.specs.Tree.{Pattern, empty, claim, alternative, sequence, star, claims_in}
-use Rattle.rule.specs.declared.node.Node.{Node}
-use Rattle.rule.specs.declared.node.Node.TheVariants.{Empty, Claim, Alternative, Sequence, Star, Implication, Disjunction, Conjunction, Negation, Truth, Presence, Comparison, First, More}
+use Rattle.std.proofs.Common.{◌≡◌, ℕ, ◌+◌, ◌≤◌, Bool, true, false, ◌&&◌, ◌||◌, ap, ◌∙◌, subst, sym, ap₂, arith, bit_or}
+use Rattle.grammar.specs.Tree.{Pattern, claims_in}
+use Rattle.rule.specs.declared.node.Node.TheVariants.{Alternative, Sequence, Star}
 use Rattle.rule.specs.declared.rule.Rule.{Rule}
+use Rattle.rule.specs.declared.summary.Summary.{Summary}
 use Rattle.rule.specs.Summaries.{after}
-use Rattle.rule.specs.Trees.{Thing, as_pattern, as_claim, made}
+use Rattle.rule.specs.Trees.{Thing, as_pattern}
 use Rattle.rule.specs.Held.{thing_of, meaning, summary_of}
+use Rattle.matching.specs.declared.truth.Context.{Context}
 use Rattle.matching.specs.Walk.{null, left, shift}
 use Rattle.matching.specs.Marks.{bit, meets}
-use Rattle.matching.specs.Passing.{tested, pattern_at, Marked, Shifted}
-use Rattle.matching.proofs.Bitwise.{bit_of_or, bit_none}
+use Rattle.matching.specs.Passing.{tested, pattern_at, Shifted}
+use Rattle.matching.proofs.Bitwise.{bit_of_or}
 use Rattle.matching.proofs.Summed.{nullable_is, claims_are, last_is}
 
--- a node that is no claim, alternative, sequence or star stands for the empty pattern
-pub no_pattern : (ts : List Thing) (v : Node) → ((a : ℕ) → v ≡ Claim a → ⊥) → ((a b : ℕ) → v ≡ Alternative a b → ⊥) → ((a b : ℕ) → v ≡ Sequence a b → ⊥) → ((a : ℕ) → v ≡ Star a → ⊥) → as_pattern (made ts v) ≡ empty
-no_pattern ts Empty c d e f = refl
-no_pattern ts (Claim a) c d e f = absurd (c a refl)
-no_pattern ts (Alternative a b) c d e f = absurd (d a b refl)
-no_pattern ts (Sequence a b) c d e f = absurd (e a b refl)
-no_pattern ts (Star a) c d e f = absurd (f a refl)
-no_pattern ts (Implication a b) c d e f = refl
-no_pattern ts (Disjunction a b) c d e f = refl
-no_pattern ts (Conjunction a b) c d e f = refl
-no_pattern ts (Negation a) c d e f = refl
-no_pattern ts Truth c d e f = refl
-no_pattern ts (Presence l) c d e f = refl
-no_pattern ts (Comparison r a b) c d e f = refl
-no_pattern ts (First d' t) c d e f = refl
-no_pattern ts (More a d' t) c d e f = refl
+-- what d is after `a && b` and after `a || b`, by the value of a
+module _ (b : Bool) {a d : Bool} where
+  pub and_first : d ≡ a → a ≡ false → d ≡ (a && b)
+  and_first p q = p ∙ q ∙ sym (ap (λ x. x && b) q)
 
-module _ (u : Rule) (n : ℕ) where
-  -- the pattern at a node, by its node
-  pub pattern_of : {v : Node} (w : Node) → thing_of u n ≡ meaning u v → v ≡ w → pattern_at u n ≡ as_pattern (meaning u w)
-  pattern_of w e f = ap as_pattern (e ∙ ap (meaning u) f)
+  pub and_second : d ≡ b → a ≡ true → d ≡ (a && b)
+  and_second p q = p ∙ sym (ap (λ x. x && b) q)
 
-  -- the claims of the parts lie in the same bounds
-  module _ (a b lo : ℕ) (h : lo + claims_in (pattern_at u n) ≤ 60) where
-    pub parts_within : claims_in (pattern_at u n) ≡ claims_in (pattern_at u a) + claims_in (pattern_at u b) → (c : ℕ) → c ≡ (summary_of u a).claims → (lo + claims_in (pattern_at u a) ≤ 60) × (lo + c ≡ lo + claims_in (pattern_at u a)) × (lo + c + claims_in (pattern_at u b) ≤ 60)
-    parts_within e c f =
-        let g : (summary_of u a).claims ≡ claims_in (pattern_at u a) = claims_are (pattern_at u a) (omega arith) in
-        (omega arith, omega arith, omega arith)
+  pub or_first : d ≡ a → a ≡ true → d ≡ (a || b)
+  or_first p q = p ∙ q ∙ sym (ap (λ x. x || b) q)
 
-  module _ (lo : ℕ) (e : Bool) (m : ℕ) (newest row : Row) where
-    abbrev Goal : ℕ → ℕ → Pattern → Type 0
-    Goal r k p = bit r k ≡ shift (tested newest) row (bit m) e lo p k
+  pub or_second : d ≡ b → a ≡ false → d ≡ (a || b)
+  or_second p q = p ∙ sym (ap (λ x. x || b) q)
 
-    pub step_empty : pattern_at u n ≡ empty → Shifted u n lo e m newest row 0
-    step_empty p k = subst (Goal 0 k) (sym p) (bit_none k)
+abbrev pub claims_at : Thing → ℕ
+claims_at t = claims_in (as_pattern t)
 
-    pub step_claim : (c r : ℕ) → pattern_at u n ≡ claim (as_claim (thing_of u c)) → Marked u c lo e newest row r → Shifted u n lo e m newest row r
-    step_claim c r p h k = subst (Goal r k) (sym p) (h k)
+-- the claims of two parts lie in the bounds of the whole
+pub parts_within : (u : Rule) (n a b lo : ℕ) (s : Summary) → claims_at (thing_of u n) ≡ claims_at (thing_of u a) + claims_at (thing_of u b) → lo + claims_in (pattern_at u n) ≤ 60 → s ≡ summary_of u a
+    → (s.claims ≡ claims_in (pattern_at u a)) × (lo + s.claims + claims_in (pattern_at u b) ≤ 60)
+parts_within u n a b lo s e h f =
+    let g : (summary_of u a).claims ≡ claims_in (pattern_at u a) = claims_are (pattern_at u a) (omega arith) in
+    let k : s.claims ≡ claims_in (pattern_at u a) = ap (λ x. x.claims) f ∙ g in
+    (k, omega arith)
 
-    pub step_alternative : (a b mid x y r : ℕ) → r ≡ bit_or x y → pattern_at u n ≡ alternative (pattern_at u a) (pattern_at u b) → mid ≡ lo + claims_in (pattern_at u a)
-        → Shifted u a lo e m newest row x → Shifted u b mid e m newest row y → Shifted u n lo e m newest row r
-    step_alternative a b mid x y r j p q h g k =
-        subst (Goal r k) (sym p)
-        (ap (λ (i : ℕ). bit i k) j ∙ bit_of_or x y k ∙ ap₂ ◌||◌ (h k) (g k ∙ ap (λ (i : ℕ). shift (tested newest) row (bit m) e i (pattern_at u b) k) q))
+module _ (x : Context) (n lo : ℕ) (e : Bool) (m : ℕ) (h : lo + claims_in (pattern_at x.rule.now n) ≤ 60) where
+  abbrev walked : Bool → ℕ → Pattern → ℕ → Bool
+  walked d i p k = shift (tested x.newest.now) x.row.now (bit m) d i p k
 
-    pub step_sequence : (a b mid x y r : ℕ) (d : Bool) → r ≡ bit_or x y → pattern_at u n ≡ sequence (pattern_at u a) (pattern_at u b) → mid ≡ lo + claims_in (pattern_at u a) → lo + claims_in (pattern_at u a) ≤ 60
-        → d ≡ (e && (summary_of u a).nullable || meets m (after lo (summary_of u a).last))
-        → Shifted u a lo e m newest row x → Shifted u b mid d m newest row y → Shifted u n lo e m newest row r
-    step_sequence a b mid x y r d j p q w t h g k =
-        let on : d ≡ (e && null (pattern_at u a) || left (bit m) lo (pattern_at u a)) = t ∙ ap₂ (λ (v z : Bool). e && v || z) (nullable_is (pattern_at u a)) (last_is (pattern_at u a) m lo w) in
-        subst (Goal r k) (sym p)
-        (ap (λ (i : ℕ). bit i k) j ∙ bit_of_or x y k ∙ ap₂ ◌||◌ (h k) (g k ∙ ap₂ (λ (i : ℕ) (v : Bool). shift (tested newest) row (bit m) v i (pattern_at u b) k) q on))
+  module _ (a b : ℕ) (s : Summary) (f : s ≡ summary_of x.rule.now a) (one other : ℕ) (i : Shifted x a lo e m one) where
+    -- the parts a and b side by side or one after the other, where b is entered so
+    both : (d : Bool) → lo + s.claims ≡ lo + claims_in (pattern_at x.rule.now a) → Shifted x b (lo + s.claims) d m other
+        → (k : ℕ) → bit (bit_or one other) k ≡ (walked e lo (pattern_at x.rule.now a) k || walked d (lo + claims_in (pattern_at x.rule.now a)) (pattern_at x.rule.now b) k)
+    both d q j k = bit_of_or one other k ∙ ap₂ ◌||◌ (i k) (j k ∙ ap (λ c. walked d c (pattern_at x.rule.now b) k) q)
 
-    pub step_star : (a x : ℕ) (d : Bool) → pattern_at u n ≡ star (pattern_at u a) → lo + claims_in (pattern_at u a) ≤ 60
-        → d ≡ (e || meets m (after lo (summary_of u a).last)) → Shifted u a lo d m newest row x → Shifted u n lo e m newest row x
-    step_star a x d p w t h k =
-        let on : d ≡ (e || left (bit m) lo (pattern_at u a)) = t ∙ ap (λ (v : Bool). e || v) (last_is (pattern_at u a) m lo w) in
-        subst (Goal x k) (sym p) (h k ∙ ap (λ (v : Bool). shift (tested newest) row (bit m) v lo (pattern_at u a) k) on)
+    pub step_alternative : thing_of x.rule.now n ≡ meaning x.rule.now (Alternative a b) → Shifted x b (lo + s.claims) e m other → Shifted x n lo e m (bit_or one other)
+    step_alternative p j k =
+        let w = parts_within x.rule.now n a b lo s (ap claims_at p) h f in
+        subst (λ t. bit (bit_or one other) k ≡ walked e lo (as_pattern t) k) (sym p) (both e (ap (λ c. lo + c) w.0) j k)
+
+    pub step_sequence : (d : Bool) → thing_of x.rule.now n ≡ meaning x.rule.now (Sequence a b) → d ≡ (e && s.nullable || meets m (after lo s.last)) → Shifted x b (lo + s.claims) d m other → Shifted x n lo e m (bit_or one other)
+    step_sequence d p t j k =
+        let w = parts_within x.rule.now n a b lo s (ap claims_at p) h f in
+        let on : d ≡ (e && null (pattern_at x.rule.now a) || left (bit m) lo (pattern_at x.rule.now a)) =
+        t ∙ ap (λ s. e && s.nullable || meets m (after lo s.last)) f ∙ ap₂ (λ v z. e && v || z) (nullable_is (pattern_at x.rule.now a)) (last_is (pattern_at x.rule.now a) m lo (omega (arith, w))) in
+        subst (λ t. bit (bit_or one other) k ≡ walked e lo (as_pattern t) k) (sym p)
+        (both d (ap (λ c. lo + c) w.0) j k ∙ ap (λ d. walked e lo (pattern_at x.rule.now a) k || walked d (lo + claims_in (pattern_at x.rule.now a)) (pattern_at x.rule.now b) k) on)
+
+  pub step_star : (a : ℕ) (d : Bool) (one : ℕ) → thing_of x.rule.now n ≡ meaning x.rule.now (Star a) → d ≡ (e || meets m (after lo (summary_of x.rule.now a).last)) → Shifted x a lo d m one → Shifted x n lo e m one
+  step_star a d one p t i k =
+      let w : lo + claims_in (pattern_at x.rule.now a) ≤ 60 = omega (arith, ap claims_at p) in
+      let on : d ≡ (e || left (bit m) lo (pattern_at x.rule.now a)) = t ∙ ap (λ v. e || v) (last_is (pattern_at x.rule.now a) m lo w) in
+      subst (λ t. bit one k ≡ walked e lo (as_pattern t) k) (sym p) (i k ∙ ap (λ d. walked d lo (pattern_at x.rule.now a) k) on)

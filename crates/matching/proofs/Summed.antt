@@ -1,5 +1,6 @@
 -- What a summary says of its pattern, which has so few claims that nothing is cut off.
-use Rattle.std.proofs.Common.{◌≡◌, ℕ, ◌+◌, ◌*◌, ◌%◌, ◌^◌, ◌<◌, ◌≤◌, Bool, true, false, cond, ◌&&◌, ◌||◌, sym, refl, ap, ◌∙◌, add-zero, mul_assoc, add_comm, one-mul, zero-mul, arith, lit<, pow_pos, pow_mono, pow-add, shl_lt, shl_exact, lt-ltb}
+use Rattle.std.proofs.Common.{◌≡◌, ℕ, ◌+◌, ◌*◌, ◌%◌, ◌^◌, ◌<◌, ◌≤◌, Bool, true, false, cond, ◌&&◌, ◌||◌, sym, refl, ap, ◌∙◌, add-zero, add_comm, one-mul, zero-mul, arith, lit<, pow_pos, pow_mono, pow-add, shl_lt, shl_exact, lt-ltb}
+use Rattle.std.proofs.lemmas.Bool.{cond_both}
 use mathlib.Core.Bool.{and-true, and-false}
 use lib.Bits.{bit_or, or_lt, or_block}
 use Rattle.grammar.specs.Tree.{Pattern, empty, claim, alternative, sequence, star, claims_in}
@@ -46,22 +47,18 @@ module _ (p q : Pattern) where
         let g : 2 ^ claims_in p ≤ 2 ^ (claims_in p + claims_in q) = pow_mono (omega arith) in
         or_lt (claims_in p + claims_in q) (summary p).last second (omega arith) second_lt
 
-cond_lt : (b : Bool) (n x y : ℕ) → x < n → y < n → cond b x y < n
-cond_lt true n x y k l = k
-cond_lt false n x y k l = l
-
 last_lt : (p : Pattern) → claims_in p ≤ 60 → (summary p).last < 2 ^ claims_in p
 last_lt empty h = lit< tt
 last_lt (claim c) h = lit< tt
 last_lt (alternative p q) h = both_lt p q h (last_lt q (omega arith)) (last_lt p (omega arith))
 last_lt (sequence p q) h =
     let l = last_lt q (omega arith) in
-    cond_lt (summary q).nullable (2 ^ (claims_in p + claims_in q)) (both p q) (second p q) (both_lt p q h l (last_lt p (omega arith))) (second_lt p q h l)
+    cond_both (summary q).nullable (both p q) (second p q) (λ x. x < 2 ^ (claims_in p + claims_in q)) (λ _. both_lt p q h l (last_lt p (omega arith))) (λ _. second_lt p q h l)
 last_lt (star p) h = last_lt p h
 
 -- sets that are moved
 moved_twice : (x j k : ℕ) → x * 2 ^ j * 2 ^ k ≡ x * 2 ^ (k + j)
-moved_twice x j k = mul_assoc x (2 ^ j) (2 ^ k) ∙ ap (λ (n : ℕ). x * n) (sym (pow-add 2 j k) ∙ ap (λ (n : ℕ). 2 ^ n) (add_comm j k))
+moved_twice x j k = rw (pow-add 2 k j) (omega arith)
 
 moved_or : (a b k : ℕ) → bit_or a b * 2 ^ k ≡ bit_or (a * 2 ^ k) (b * 2 ^ k)
 moved_or a b k = sym (simp add-zero at (or_block k a b 0 0 (pow_pos k) (pow_pos k)))

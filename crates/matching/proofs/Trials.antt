@@ -1,107 +1,114 @@
 -- The walk over the rows, newest first, turn by turn.
-use Rattle.std.proofs.Common.{◌≡◌, ℕ, zero, suc, ◌-◌, ◌<◌, ◌≤◌, Bool, true, false, ◌||◌, T, ltb, List, [], ◌∷◌, ◌++◌, reverse, length, get_or, sym, refl, ap, ◌∙◌, subst, arith}
+use Rattle.std.proofs.Common.{◌≡◌, ℕ, ◌-◌, ◌<◌, ◌≤◌, Bool, true, false, ◌||◌, T, List, [], ◌∷◌, ◌++◌, reverse, length, get_or, sym, ap, ◌∙◌, subst, arith}
 use mathlib.Core.Path.{fun_ext}
-use mathlib.Core.List.{reverse-cons}
-use Rattle.std.proofs.lemmas.Bool.Decides.{nat_tests}
+use Rattle.std.proofs.lemmas.List.{reverse-append, get_or-reverse, length-reverse, nil_from_length}
 use Rattle.engine.specs.declared.Row.{Row}
 use Rattle.grammar.specs.Tree.{Claim, Pattern}
 use Rattle.rule.specs.declared.rule.Rule.{Rule}
+use Rattle.rule.specs.declared.summary.Summary.{Summary}
 use Rattle.rule.specs.Summaries.{after}
 use Rattle.rule.specs.Held.{rule_tree, root_of, summary_of}
 use Rattle.matching.specs.Fits.{Passes}
-use Rattle.matching.specs.Walk.{null, left, unmarked, goes, passes, passes_sound, passes_complete, passes_goes, goes_unmarked, Told, told_one}
+use Rattle.matching.specs.Walk.{null, left, unmarked, shift, goes, passes, passes_sound, passes_complete, passes_goes, goes_unmarked, Told, told_one}
 use Rattle.matching.specs.Marks.{bit, meets}
-use Rattle.matching.specs.Passing.{unread, tested, PassesRule, tried, tried_told, Answered, Shifted}
+use Rattle.matching.specs.Passing.{tested, PassesRule, tried, tried_told, Answered, pattern_at}
 use Rattle.matching.proofs.Bitwise.{bit_none}
 use Rattle.matching.proofs.Summed.{nullable_is, last_is}
-
--- what the test for rows that are left says
-pub is_left : (i : ℕ) → true ≡ ltb 0 i → 0 < i
-is_left i e = grind (arith, nat_tests)
-
-pub is_over : (i : ℕ) → false ≡ ltb 0 i → i ≤ 0
-is_over i e = grind (arith, nat_tests)
-
--- the first i rows, the last of them first
-abbrev pub back : List Row → ℕ → List Row
-back rows zero = []
-back rows (suc i) = get_or rows i unread ∷ back rows i
-
-back_cons : (x : Row) (xs : List Row) (i : ℕ) → back (x ∷ xs) (suc i) ≡ back xs i ++ (x ∷ [])
-back_cons x xs zero = refl
-back_cons x xs (suc i) = ap (λ (zs : List Row). get_or xs i unread ∷ zs) (back_cons x xs i)
-
-back_all : (rows : List Row) → reverse rows ≡ back rows (length rows)
-back_all [] = refl
-back_all (x ∷ xs) = reverse-cons x xs ∙ ap (λ (zs : List Row). zs ++ (x ∷ [])) (back_all xs) ∙ sym (back_cons x xs (length xs))
 
 no_marks : bit 0 ≡ unmarked
 no_marks = fun_ext bit_none
 
-module _ (u : Rule) (rows : List Row) where
+-- what the walk answers on rows, newest first
+abbrev pub outcome : Pattern → List Row → Bool
+outcome p [] = null p
+outcome p (newest ∷ older) = passes (tested newest) p (newest ∷ older)
+
+module _ (p : Pattern) where
+  decided : (test : Claim → Row → Bool) (b : Bool) (rows : List Row) → passes test p rows ≡ b → Told b (Passes test p rows)
+  decided test b rows e = (λ t. passes_sound test p rows (subst T (sym e) t), λ c. subst T e (passes_complete test p rows c))
+
+  outcome_told : (b : Bool) (rows : List Row) → outcome p rows ≡ b → Told b (PassesRule p rows)
+  outcome_told b [] e = decided (λ c r. false) b [] e
+  outcome_told b (newest ∷ older) e = decided (tested newest) b (newest ∷ older) e
+
+  answered : (rows : List Row) (b : Bool) → outcome p rows ≡ b → Answered p rows b
+  answered rows b e =
+      let t = outcome_told b rows e in
+      record { told = t; as_tried = told_one (PassesRule p rows) b (tried p rows) t (tried_told p rows) }
+
+  nothing_read : (rows : List Row) → null p ≡ true → outcome p rows ≡ true
+  nothing_read [] e = e
+  nothing_read (newest ∷ older) e = passes_goes (tested newest) p (newest ∷ older) ∙ ap (λ b. b || goes (tested newest) p true unmarked (newest ∷ older)) e
+
+  something_read : (newest : Row) (older : List Row) → null p ≡ false → outcome p (newest ∷ older) ≡ goes (tested newest) p true (bit 0) (newest ∷ older)
+  something_read newest older e =
+      passes_goes (tested newest) p (newest ∷ older)
+      ∙ ap (λ b. b || goes (tested newest) p true unmarked (newest ∷ older)) e
+      ∙ ap (λ f. goes (tested newest) p true f (newest ∷ older)) (sym no_marks)
+
+-- the last row is the first of the reversed ones
+first_is : (x : Row) (rows : List Row) → 0 < length rows → get_or rows 0 x ≡ x → (older : List Row) × (rows ≡ x ∷ older)
+first_is x [] h e = absurd (omega arith)
+first_is x (y ∷ ys) h e = (ys, ap (λ z. z ∷ ys) e)
+
+newest_first : (rows : List Row) (x : Row) → 0 < length rows → x ≡ get_or rows (length rows - 1) x → (older : List Row) × (reverse rows ≡ x ∷ older)
+newest_first rows x h e =
+    let i : length rows - 1 - 0 ≡ length rows - 1 = omega arith in
+    first_is x (reverse rows) (omega (arith, length-reverse rows)) (get_or-reverse rows 0 x h ∙ ap (λ i. get_or rows i x) i ∙ sym e)
+
+-- what is left to walk: the first rows, the last of them first
+pub record Left (u : Rule) (rows : List Row) (newest : Row) (e : Bool) (m : ℕ) (rest : List Row) : Type 0 where
+  pub walk : outcome (rule_tree u) (reverse rows) ≡ goes (tested newest) (rule_tree u) e (bit m) (reverse rest)
+
+-- the same once a row was walked over and left the marks r: some of them stand at the end, or the walk goes on
+pub record Turned (u : Rule) (rows : List Row) (newest : Row) (s : Summary) (r : ℕ) (others : List Row) : Type 0 where
+  pub walk : outcome (rule_tree u) (reverse rows) ≡ (meets r (after 0 s.last) || goes (tested newest) (rule_tree u) false (bit r) (reverse others))
+
+module _ (u : Rule) (rows : List Row) (n : ℕ) (root : n ≡ root_of u) (s : Summary) (whole : s ≡ summary_of u n) where
   abbrev tree : Pattern
   tree = rule_tree u
 
-  -- the newest row
-  abbrev pub newest : Row
-  newest = get_or rows (length rows - 1) unread
+  is_nullable : s.nullable ≡ null tree
+  is_nullable = ap (λ x. x.nullable) (whole ∙ ap (summary_of u) root) ∙ nullable_is tree
 
-  -- what the walk answers, over all rows
-  abbrev whole : Bool
-  whole = passes (tested newest) tree (reverse rows)
+  pub at_once : s.nullable ≡ true → Answered tree (reverse rows) true
+  at_once e = answered tree (reverse rows) true (nothing_read tree (reverse rows) (sym is_nullable ∙ e))
 
-  decided : (test : Claim → Row → Bool) (b : Bool) (xs : List Row) → passes test tree xs ≡ b → Told b (Passes test tree xs)
-  decided test b xs e = (λ t. passes_sound test tree xs (subst T (sym e) t), λ c. subst T e (passes_complete test tree xs c))
+  pub no_rows : s.nullable ≡ false → length rows ≤ 0 → Answered tree (reverse rows) false
+  no_rows e z = answered tree (reverse rows) false (ap (outcome tree) (ap reverse (nil_from_length rows (omega arith))) ∙ sym is_nullable ∙ e)
 
-  -- with no rows no claim is tried; otherwise the newest row is the first of the reversed ones
-  by_length : (k : ℕ) → length rows ≡ k → (b : Bool) → passes (tested newest) tree (back rows k) ≡ b → Told b (PassesRule tree (back rows k))
-  by_length zero e b h = decided (λ c r. false) b [] h
-  by_length (suc k) e b h =
-      let at : length rows - 1 ≡ k = omega arith in
-      decided (tested (get_or rows k unread)) b (back rows (suc k)) (subst (λ (i : ℕ). passes (tested (get_or rows i unread)) tree (back rows (suc k)) ≡ b) at h)
+  module _ (newest : Row) where
+    pub begins : s.nullable ≡ false → 0 < length rows → newest ≡ get_or rows (length rows - 1) newest → (rest : List Row) → rest ≡ rows → Left u rows newest true 0 rest
+    begins e h k rest l =
+        let f = newest_first rows newest h k in
+        record {
+          walk = subst (λ xs. outcome tree (reverse rows) ≡ goes (tested newest) tree true (bit 0) (reverse xs)) (sym l)
+              (subst (λ xs. outcome tree xs ≡ goes (tested newest) tree true (bit 0) xs) (sym f.1) (something_read tree newest f.0 (sym is_nullable ∙ e)));
+        }
 
-  answered : (b : Bool) → whole ≡ b → Answered tree (reverse rows) b
-  answered b e =
-      let t = subst (λ (xs : List Row). Told b (PassesRule tree xs)) (sym (back_all rows))
-      (by_length (length rows) refl b (ap (passes (tested newest) tree) (sym (back_all rows)) ∙ e)) in
-      record { told = t; as_tried = told_one (PassesRule tree (reverse rows)) b (tried tree (reverse rows)) t (tried_told tree (reverse rows)) }
+    pub turn : (row : Row) (e : Bool) (m r : ℕ) (rest others : List Row) → Left u rows newest e m rest → rest ≡ others ++ row ∷ []
+        → ((k : ℕ) → bit r k ≡ shift (tested newest) row (bit m) e 0 (pattern_at u n) k) → Turned u rows newest s r others
+    turn row e m r rest others inv here moved =
+        let last : left (bit r) 0 tree ≡ meets r (after 0 s.last) =
+        sym (last_is tree r 0 (omega (arith, u.limited, u.counted))) ∙ ap (λ x. meets r (after 0 x.last)) (sym (whole ∙ ap (summary_of u) root)) in
+        record {
+          walk = inv.walk ∙ ap (λ xs. goes (tested newest) tree e (bit m) xs) (ap reverse here ∙ reverse-append others (row ∷ []))
+              ∙ ap (λ f. left f 0 tree || goes (tested newest) tree false f (reverse others)) (sym (fun_ext (λ k. moved k ∙ ap (λ i. shift (tested newest) row (bit m) e 0 (pattern_at u i) k) root)))
+              ∙ ap (λ b. b || goes (tested newest) tree false (bit r) (reverse others)) last;
+        }
 
-  nullable : (summary_of u (root_of u)).nullable ≡ null tree
-  nullable = nullable_is tree
+module _ {u : Rule} {rows : List Row} {newest : Row} where
+  pub run_out : {e : Bool} {m : ℕ} {rest : List Row} → Left u rows newest e m rest → length rest ≡ 0 → Answered (rule_tree u) (reverse rows) false
+  run_out {e} {m} {rest} inv z = answered (rule_tree u) (reverse rows) false (inv.walk ∙ ap (λ xs. goes (tested newest) (rule_tree u) e (bit m) (reverse xs)) (nil_from_length rest z))
 
-  pub at_once : (summary_of u (root_of u)).nullable ≡ true → Answered tree (reverse rows) true
-  at_once e = answered true (passes_goes (tested newest) tree (reverse rows) ∙ ap (λ (b : Bool). b || goes (tested newest) tree true unmarked (reverse rows)) (sym nullable ∙ e))
+  module _ {s : Summary} {r : ℕ} {others : List Row} (t : Turned u rows newest s r others) where
+    pub ends : true ≡ meets r (after 0 s.last) → Answered (rule_tree u) (reverse rows) true
+    ends e = answered (rule_tree u) (reverse rows) true (t.walk ∙ ap (λ b. b || goes (tested newest) (rule_tree u) false (bit r) (reverse others)) (sym e))
 
-  -- after the rows from the newest down to i: what is left to walk
-  abbrev pub Left : ℕ → Bool → ℕ → Type 0
-  Left i e m = whole ≡ goes (tested newest) tree e (bit m) (back rows i)
+    pub goes_on : false ≡ meets r (after 0 s.last) → Left u rows newest false r others
+    goes_on e = record { walk = t.walk ∙ ap (λ b. b || goes (tested newest) (rule_tree u) false (bit r) (reverse others)) (sym e) }
 
-  pub begins : (summary_of u (root_of u)).nullable ≡ false → Left (length rows) true 0
-  begins e =
-      passes_goes (tested newest) tree (reverse rows)
-      ∙ ap (λ (b : Bool). b || goes (tested newest) tree true unmarked (reverse rows)) (sym nullable ∙ e)
-      ∙ ap (λ (f : ℕ → Bool). goes (tested newest) tree true f (reverse rows)) (sym no_marks)
-      ∙ ap (goes (tested newest) tree true (bit 0)) (back_all rows)
-
-  pub run_out : (e : Bool) (m : ℕ) → Left 0 e m → Answered tree (reverse rows) false
-  run_out e m inv = answered false inv
-
-  module _ (i j : ℕ) (e : Bool) (m n : ℕ) (here : i ≡ suc j) (inv : Left i e m) (s : Shifted u (root_of u) 0 e m newest (get_or rows j unread) n) where
-    -- some mark stands at the end
-    last : meets n (after 0 (summary_of u (root_of u)).last) ≡ left (bit n) 0 tree
-    last = last_is tree n 0 (omega (arith, u.limited, u.counted))
-
-    turn : whole ≡ (meets n (after 0 (summary_of u (root_of u)).last) || goes (tested newest) tree false (bit n) (back rows j))
-    turn =
-        inv ∙ ap (λ (x : ℕ). goes (tested newest) tree e (bit m) (back rows x)) here
-        ∙ ap (λ (f : ℕ → Bool). left f 0 tree || goes (tested newest) tree false f (back rows j)) (sym (fun_ext s))
-        ∙ ap (λ (b : Bool). b || goes (tested newest) tree false (bit n) (back rows j)) (sym last)
-
-    pub turn_left : true ≡ meets n (after 0 (summary_of u (root_of u)).last) → Answered tree (reverse rows) true
-    turn_left t = answered true (turn ∙ ap (λ (b : Bool). b || goes (tested newest) tree false (bit n) (back rows j)) (sym t))
-
-    pub turn_again : false ≡ meets n (after 0 (summary_of u (root_of u)).last) → Left j false n
-    turn_again t = turn ∙ ap (λ (b : Bool). b || goes (tested newest) tree false (bit n) (back rows j)) (sym t)
-
-    pub turn_lost : false ≡ meets n (after 0 (summary_of u (root_of u)).last) → n ≡ 0 → Answered tree (reverse rows) false
-    turn_lost t z = answered false (turn_again t ∙ ap (λ (f : ℕ → Bool). goes (tested newest) tree false f (back rows j)) (ap bit z ∙ no_marks) ∙ goes_unmarked (tested newest) tree (back rows j))
+    pub is_lost : false ≡ meets r (after 0 s.last) → r ≡ 0 → Answered (rule_tree u) (reverse rows) false
+    is_lost e z =
+        answered (rule_tree u) (reverse rows) false
+        ((goes_on e).walk ∙ ap (λ f. goes (tested newest) (rule_tree u) false f (reverse others)) (ap bit z ∙ no_marks) ∙ goes_unmarked (tested newest) (rule_tree u) (reverse others))

@@ -1,20 +1,15 @@
 -- When rows pass a rule.
 use Rattle.std.specs.Prelude.{◌≡◌, ℕ, Bool, true, false, ◌&&◌, List, [], ◌∷◌, ◌==◌}
-use Rattle.engine.specs.declared.Op.TheVariants.{First}
 use Rattle.engine.specs.declared.Row.{Row}
-use Rattle.engine.specs.declared.Value.TheVariants.{Missing}
 use Rattle.grammar.specs.Tree.{Claim, Pattern}
 use Rattle.rule.specs.declared.rule.Rule.{Rule}
 use Rattle.rule.specs.Trees.{as_pattern, as_claim}
 use Rattle.rule.specs.Held.{thing_of}
+use Rattle.matching.specs.declared.truth.Context.{Context}
 use Rattle.matching.specs.Truth.{claim_true}
 use Rattle.matching.specs.Fits.{Passes}
 use Rattle.matching.specs.Walk.{shift, passes?, Told}
 use Rattle.matching.specs.Marks.{bit}
-
--- what reading a row past the end of a list gives; no contract depends on it
-abbrev pub unread : Row
-unread = record { op = First; arg = Missing; values = record { c1 = Missing; c2 = Missing; c3 = Missing; c4 = Missing; c5 = Missing; c6 = Missing } }
 
 -- a claim is tried on a row while the newest row stays the same throughout one match
 abbrev pub tested : Row → Claim → Row → Bool
@@ -52,9 +47,9 @@ abbrev pub pattern_at : Rule → ℕ → Pattern
 pattern_at u n = as_pattern (thing_of u n)
 
 -- r marks the claim at the node n, counted after lo others, if it is entered and true of the row
-abbrev pub Marked : Rule → ℕ → ℕ → Bool → Row → Row → ℕ → Type 0
-Marked u n lo e newest row r = (k : ℕ) → bit r k ≡ (e && claim_true newest row (as_claim (thing_of u n)) && k == lo)
+abbrev pub Marked : Context → ℕ → ℕ → Bool → ℕ → Type 0
+Marked x n lo e r = (k : ℕ) → bit r k ≡ (e && claim_true x.newest.now x.row.now (as_claim (thing_of x.rule.now n)) && k == lo)
 
 -- the marks r are those that the walk has in the pattern at the node n after one more row
-abbrev pub Shifted : Rule → ℕ → ℕ → Bool → ℕ → Row → Row → ℕ → Type 0
-Shifted u n lo e m newest row r = (k : ℕ) → bit r k ≡ shift (tested newest) row (bit m) e lo (pattern_at u n) k
+abbrev pub Shifted : Context → ℕ → ℕ → Bool → ℕ → ℕ → Type 0
+Shifted x n lo e m r = (k : ℕ) → bit r k ≡ shift (tested x.newest.now) x.row.now (bit m) e lo (pattern_at x.rule.now n) k

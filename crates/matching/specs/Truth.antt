@@ -1,7 +1,5 @@
 -- When a claim is true of a row. A plain name reads that row, and a name with `'` the newest row.
 use Rattle.std.specs.Prelude.{Bool, true, false, not, ◌&&◌, ◌||◌, ℤ, pos, ◌+ℤ◌, neg_ℤ, Some, None, Option, int_le, int_lt}
-use Rattle.engine.specs.declared.Value.{Value}
-use Rattle.engine.specs.declared.Value.TheVariants.{Missing, Number}
 use Rattle.engine.specs.declared.Row.{Row}
 use Rattle.engine.specs.Values.{op_number}
 use Rattle.grammar.specs.declared.Field.{Field}
@@ -16,19 +14,15 @@ use Rattle.grammar.specs.declared.Term.{Term}
 use Rattle.grammar.specs.declared.Term.TheVariants.{Constant, Named}
 use Rattle.grammar.specs.Tree.{Sum, first, more, Claim, implication, disjunction, conjunction, negation, truth, presence, comparison}
 
-abbrev pub number_in : Value → Option ℤ
-number_in Missing = None
-number_in (Number z) = Some z
-
 abbrev pub field_of : Row → Field → Option ℤ
 field_of r Op = Some (pos (op_number r.op))
-field_of r Arg = number_in r.arg
-field_of r C1 = number_in r.values.c1
-field_of r C2 = number_in r.values.c2
-field_of r C3 = number_in r.values.c3
-field_of r C4 = number_in r.values.c4
-field_of r C5 = number_in r.values.c5
-field_of r C6 = number_in r.values.c6
+field_of r Arg = r.arg
+field_of r C1 = r.values.c1
+field_of r C2 = r.values.c2
+field_of r C3 = r.values.c3
+field_of r C4 = r.values.c4
+field_of r C5 = r.values.c5
+field_of r C6 = r.values.c6
 
 abbrev pub signed : Sign → ℤ → ℤ
 signed Plus z = z

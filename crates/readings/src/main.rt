@@ -5,13 +5,13 @@
 mod input;
 
 use canonical::Canonical;
-use fields::first_line;
+use fields::Lines;
 use input::Case;
 use rule::Rule;
 use std::io;
 use std::io::Read;
 
-// More bytes of input than this are not looked at.
+// More bytes of input than this are not looked at. A crate for the lines that three programs read it with would be no plainer.
 const LIMIT: u64 = 1_000_000;
 
 fn main(rt: HostRuntime) -> io::Result<()> {
@@ -21,15 +21,13 @@ fn main(rt: HostRuntime) -> io::Result<()> {
 }
 
 // Answers the lines in turn, from a place that holds a new rule at first.
-fn answer_all(rt: &impl Print, lines: &[u8]) -> io::Result<()> {
+fn answer_all(rt: &impl Print, input: &[u8]) -> io::Result<()> {
     let mut rule = Rule::new();
-    let mut rest = lines;
-    while let Some((line, after)) = first_line(rest) {
+    for line in Lines::new(input) {
         match Case::of(line) {
             Some(case) => answer(rt, &mut rule, case)?,
             None => println!(rt; "bad line")?,
         }
-        rest = after;
     }
     Ok(())
 }
@@ -43,10 +41,6 @@ fn answer(rt: &impl Print, rule: &mut Rule, case: Case<'_>) -> io::Result<()> {
     let tree = Canonical::of(rule);
     match outcome {
         Ok(()) => println!(rt; "read {watch}: {tokens} tokens, {claims} claims, {tree}"),
-        Err(refusal) => {
-            let number = refusal.number();
-            let place = refusal.place();
-            println!(rt; "refused {number} at {place}; holds {watch}: {tree}")
-        }
+        Err(refusal) => println!(rt; "refused {refusal}; holds {watch}: {tree}"),
     }
 }

@@ -9,12 +9,11 @@ use Rattle.grammar.specs.declared.Field.{Field}
 use Rattle.grammar.specs.declared.Name.{Name}
 use Rattle.grammar.specs.declared.Name.TheVariants.{Plain, Newest}
 use Rattle.grammar.specs.declared.Term.{Term}
-use Rattle.grammar.specs.declared.Term.TheVariants.{Constant, Named}
+use Rattle.grammar.specs.declared.Term.TheVariants.{Named}
 use Rattle.grammar.specs.Tree.{Sum, first, more, terms, Claim, implication, disjunction, conjunction, negation, truth, presence, comparison}
 use Rattle.grammar.specs.Views.{AtSingle, single_Not, single_LeftRound, single_True, single_Has, single_Additive, single_Number, single_FieldName, single_other, at_single, AfterSingle, after_Quote, after_Additive, after_Relational, after_And, after_Or, after_Arrow, after_RightRound, after_RightSquare, after_other, after_single}
 use Rattle.grammar.specs.ClaimMachine.{ClaimFrame, claim_frame, fresh, with_sum, Side, left, right, single_wanted, single_had, name_wanted, name_had, sum_wanted, term_wanted, term_named, term_had, ClaimStep, on, stuck, if_quote, if_sign, if_and, on_both, on_had, if_room, on_term, want_name, want_term, want_sum, want_single, claim_start, claim_good, claim_bad, claim_follow, claim_run}
-use Rattle.rule.specs.Readers.{Lacks, LacksAll, NameEnds, plain_name, newest_name, NameFails, TermEnds, TermFails, Leads, is_minus, is_bare, SumOf, SumEnds, SumFails, ComparisonEnds, ComparisonFails, SingleEnds, SingleFails, BothSoFar, BothEnds, BothFails, EitherSoFar, EitherEnds, EitherFails, ClaimEnds, ClaimFails}
-use Rattle.rule.proofs.Peeks.{Next}
+use Rattle.rule.specs.Readers.{Next, Lacks, LacksAll, NameEnds, plain_name, newest_name, NameFails, TermEnds, TermFails, Leads, is_minus, is_bare, SumOf, SumEnds, SumFails, ComparisonEnds, ComparisonFails, SingleEnds, SingleFails, BothSoFar, BothEnds, EitherSoFar, EitherEnds, ClaimEnds}
 
 by_step : (t : Symbol) (ts : List Symbol) {m n : ClaimStep} → m ≡ n → claim_follow m t ts (λ s. claim_run s ts) ≡ claim_follow n t ts (λ s. claim_run s ts)
 by_step t ts e = ap (λ (n : ClaimStep). claim_follow n t ts (λ s. claim_run s ts)) e
@@ -248,9 +247,6 @@ module _ (ts : List Symbol) where
   named_runs (newest_name w k e) g H h a d = ap (claim_run (term_wanted g H h a d)) e
 
   -- a term
-  pub term_number : (at n : ℕ) → Next ts at (Number n) → TermEnds ts at (at + 1) (Constant n)
-  term_number at n m = record { on = omega arith; within = omega (arith, m.within); runs = λ g H f a d. ap (claim_run (term_wanted g H f a d)) m.here }
-
   pub term_name : (at p : ℕ) (l : Name) → NameEnds ts at p l → TermEnds ts at p (Named l)
   term_name at p l n = let h = name_on n in record { on = h.0; within = h.1; runs = named_runs n }
 
@@ -286,18 +282,6 @@ module _ (ts : List Symbol) where
     count = ap suc s.count ∙ sym (add-one n);
   }
 
-  pub sum_more_fails : (at p k n : ℕ) (d : Sign) (x : Sum) → SumOf ts at n p x → n < 8 → Next ts p (Additive d) → TermFails ts (p + 1) k → SumFails ts at k
-  sum_more_fails at p k n d x s l m t = record {
-    within = t.within;
-    runs = λ g H h. s.so_far.runs g H h ∙ ap (claim_run (term_had g H h x)) m.here ∙ room_runs g H h x d (drop (p + 1) ts) (omega (arith, s.count)) ∙ t.runs g H h (some x) d;
-  }
-
-  pub sum_over : (at p n : ℕ) (x : Sum) → SumOf ts at n p x → LacksAll Additive (drop p ts) → SumEnds ts at p x
-  sum_over at p n x s o = record { so_far = s.so_far; over = inl o }
-
-  pub sum_full : (at p n : ℕ) (x : Sum) → SumOf ts at n p x → 8 ≤ n → SumEnds ts at p x
-  sum_full at p n x s o = record { so_far = s.so_far; over = inr (omega (arith, s.count)) }
-
   -- a comparison
   pub comparison_done : (at p q : ℕ) (r : Relation) (x y : Sum) → SumEnds ts at p x → Next ts p (Relational r) → SumEnds ts (p + 1) q y → ComparisonEnds ts at q (comparison r x y)
   comparison_done at p q r x y a n b =
@@ -312,14 +296,6 @@ module _ (ts : List Symbol) where
   pub comparison_cut : (at p : ℕ) (x : Sum) → SumEnds ts at p x → LacksAll Relational (drop p ts) → ComparisonFails ts at p
   comparison_cut at p x a n = let s = a.so_far in record { within = s.within; runs = λ g H. s.runs g H left ∙ left_bad g H x (drop p ts) a.over n }
 
-  pub comparison_left : (at k : ℕ) → SumFails ts at k → ComparisonFails ts at k
-  comparison_left at k a = record { within = a.within; runs = λ g H. a.runs g H left }
-
-  pub comparison_right : (at p k : ℕ) (r : Relation) (x : Sum) → SumEnds ts at p x → Next ts p (Relational r) → SumFails ts (p + 1) k → ComparisonFails ts at k
-  comparison_right at p k r x a n b =
-      let s = a.so_far in
-      record { within = b.within; runs = λ g H. s.runs g H left ∙ ap (claim_run (term_had g H left x)) n.here ∙ b.runs g H (right r x) }
-
   -- a single
   pub single_true : (at : ℕ) → Next ts at True → SingleEnds ts at (at + 1) truth
   single_true at n = record { on = omega arith; within = omega (arith, n.within); runs = λ g H. ap (claim_run (single_wanted g H)) n.here }
@@ -327,14 +303,8 @@ module _ (ts : List Symbol) where
   not_runs : (at p : ℕ) (x : Claim) → Next ts at Not → SingleEnds ts (at + 1) p x → (g : ClaimFrame) (H : List ClaimFrame) → claim_run (single_wanted g H) (drop at ts) ≡ claim_run (single_had g H (negation x)) (drop p ts)
   not_runs at p x m s (claim_frame i o a n) H = ap (claim_run (single_wanted (claim_frame i o a n) H)) m.here ∙ s.runs (claim_frame i o a (suc n)) H ∙ not_takes i o a n H x (drop p ts)
 
-  not_stops : (at k : ℕ) → Next ts at Not → SingleFails ts (at + 1) k → (g : ClaimFrame) (H : List ClaimFrame) → claim_run (single_wanted g H) (drop at ts) ≡ claim_bad (drop k ts)
-  not_stops at k m s (claim_frame i o a n) H = ap (claim_run (single_wanted (claim_frame i o a n) H)) m.here ∙ s.runs (claim_frame i o a (suc n)) H
-
   pub single_not : (at p : ℕ) (x : Claim) → Next ts at Not → SingleEnds ts (at + 1) p x → SingleEnds ts at p (negation x)
   single_not at p x m s = record { on = omega (arith, s.on); within = s.within; runs = not_runs at p x m s }
-
-  pub single_not_fails : (at k : ℕ) → Next ts at Not → SingleFails ts (at + 1) k → SingleFails ts at k
-  single_not_fails at k m s = record { within = s.within; runs = not_stops at k m s }
 
   pub single_has : (at p : ℕ) (l : Name) → Next ts at Has → NameEnds ts (at + 1) p l → SingleEnds ts at p (presence l)
   single_has at p l m n = let h = name_on n in record { on = omega (arith, h); within = h.1; runs = λ g H. ap (claim_run (single_wanted g H)) m.here ∙ known_runs n g H }
@@ -348,29 +318,13 @@ module _ (ts : List Symbol) where
   pub single_compare_fails : (at k : ℕ) → Lacks Not (drop at ts) → Lacks LeftRound (drop at ts) → Lacks True (drop at ts) → Lacks Has (drop at ts) → ComparisonFails ts at k → SingleFails ts at k
   single_compare_fails at k a b d f s = record { within = s.within; runs = λ g H. single_is_sum g H (drop at ts) a b d f ∙ s.runs g H }
 
-  pub single_round : (at p : ℕ) (x : Claim) → Next ts at LeftRound → ClaimEnds ts (at + 1) p x → Next ts p RightRound → SingleEnds ts at (p + 1) x
-  single_round at p x m s n = subst (SingleEnds ts at (p + 1)) s.joined (record {
-    on = omega (arith, s.on);
-    within = omega (arith, n.within);
-    runs = λ g H. ap (claim_run (single_wanted g H)) m.here ∙ s.runs (g ∷ H) ∙ ap (claim_run (single_had (claim_frame s.before none none zero) (g ∷ H) s.last)) n.here;
-  })
-
   pub single_unclosed : (at p : ℕ) (x : Claim) → Next ts at LeftRound → ClaimEnds ts (at + 1) p x → Lacks RightRound (drop p ts) → SingleFails ts at p
   single_unclosed at p x m s n = record {
     within = s.within;
     runs = λ g H. ap (claim_run (single_wanted g H)) m.here ∙ s.runs (g ∷ H) ∙ round_bad s.before g H s.last (drop p ts) s.and_over s.or_over s.arrow_over n;
   }
 
-  pub single_inner : (at k : ℕ) → Next ts at LeftRound → ClaimFails ts (at + 1) k → SingleFails ts at k
-  single_inner at k m s = record { within = s.within; runs = λ g H. ap (claim_run (single_wanted g H)) m.here ∙ s.runs (g ∷ H) }
-
   -- a both
-  pub both_first : (at p : ℕ) (x : Claim) → SingleEnds ts at p x → BothSoFar ts at p x
-  both_first at p x s = record { on = s.on; within = s.within; runs = λ i o H. s.runs (claim_frame i o none zero) H }
-
-  pub both_none : (at k : ℕ) → SingleFails ts at k → BothFails ts at k
-  both_none at k s = record { within = s.within; runs = λ i o H. s.runs (claim_frame i o none zero) H }
-
   pub both_more : (at p q : ℕ) (x y : Claim) → BothSoFar ts at p x → Next ts p And → SingleEnds ts (p + 1) q y → BothSoFar ts at q (conjunction x y)
   both_more at p q x y s n t = record {
     on = omega (arith, s.on, t.on);
@@ -378,16 +332,7 @@ module _ (ts : List Symbol) where
     runs = λ i o H. s.runs i o H ∙ ap (claim_run (single_had (claim_frame i o none zero) H x)) n.here ∙ t.runs (claim_frame i o (some x) zero) H ∙ both_takes i o x H y (drop q ts);
   }
 
-  pub both_fails : (at p k : ℕ) (x : Claim) → BothSoFar ts at p x → Next ts p And → SingleFails ts (p + 1) k → BothFails ts at k
-  both_fails at p k x s n t = record { within = t.within; runs = λ i o H. s.runs i o H ∙ ap (claim_run (single_had (claim_frame i o none zero) H x)) n.here ∙ t.runs (claim_frame i o (some x) zero) H }
-
   -- an either
-  pub either_first : (at p : ℕ) (x : Claim) → BothEnds ts at p x → EitherSoFar ts at p x
-  either_first at p x b = let s = b.so_far in record { on = s.on; within = s.within; runs = λ i H. s.runs i none H; and_over = b.over }
-
-  pub either_none : (at k : ℕ) → BothFails ts at k → EitherFails ts at k
-  either_none at k s = record { within = s.within; runs = λ i H. s.runs i none H }
-
   pub either_more : (at p q : ℕ) (x y : Claim) → EitherSoFar ts at p x → Next ts p Or → BothEnds ts (p + 1) q y → EitherSoFar ts at q (disjunction x y)
   either_more at p q x y s n b =
       let t = b.so_far in
@@ -397,9 +342,6 @@ module _ (ts : List Symbol) where
         runs = λ i H. s.runs i H ∙ ap (claim_run (single_had (claim_frame i none none zero) H x)) n.here ∙ t.runs i (some x) H ∙ either_takes i x H y (drop q ts) b.over;
         and_over = b.over;
       }
-
-  pub either_fails : (at p k : ℕ) (x : Claim) → EitherSoFar ts at p x → Next ts p Or → BothFails ts (p + 1) k → EitherFails ts at k
-  either_fails at p k x s n t = record { within = t.within; runs = λ i H. s.runs i H ∙ ap (claim_run (single_had (claim_frame i none none zero) H x)) n.here ∙ t.runs i (some x) H }
 
   -- a claim
   pub claim_one : (at p : ℕ) (x : Claim) → EitherEnds ts at p x → Lacks Arrow (drop p ts) → ClaimEnds ts at p x
@@ -422,14 +364,6 @@ module _ (ts : List Symbol) where
         or_over = b.over;
         arrow_over = λ e. none_some e;
       }
-
-  pub claim_none : (at k : ℕ) → EitherFails ts at k → ClaimFails ts at k
-  claim_none at k a = record { within = a.within; runs = λ H. a.runs none H }
-
-  pub claim_second : (at p k : ℕ) (x : Claim) → EitherEnds ts at p x → Next ts p Arrow → EitherFails ts (p + 1) k → ClaimFails ts at k
-  claim_second at p k x a n b =
-      let s = a.so_far in
-      record { within = b.within; runs = λ H. s.runs none H ∙ ap (claim_run (single_had fresh H x)) n.here ∙ b.runs (some x) H }
 
   -- and its `]`
   pub claim_closed : (at p : ℕ) (x : Claim) → ClaimEnds ts at p x → Next ts p RightSquare → claim_run claim_start (drop at ts) ≡ claim_good x (drop (p + 1) ts)

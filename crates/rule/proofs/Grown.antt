@@ -1,5 +1,5 @@
 -- How nodes are put after others, and what they then stand for.
-use Rattle.std.proofs.Common.{◌≡◌, ℕ, ◌+◌, ◌<◌, ◌≤◌, List, [], ◌∷◌, ◌++◌, length, get_or, take, sym, ap, ◌∙◌, subst, append_assoc, arith, length-append, length-take}
+use Rattle.std.proofs.Common.{◌≡◌, ℕ, ◌+◌, ◌<◌, ◌≤◌, List, [], ◌∷◌, ◌++◌, length, get_or, sym, ap, ◌∙◌, subst, append_assoc, arith, length-append}
 use Rattle.rule.specs.declared.node.Node.{Node}
 use Rattle.rule.specs.Trees.{Thing, blank, made, things, thing}
 use Rattle.rule.specs.Built.{Made}
@@ -57,6 +57,3 @@ same Is at q a h is = record { few = omega (arith, a.few); more = a.more; kept =
 -- an old node is still there
 pub later : {X : Type 0} {get : Thing → X} {Is : ℕ → X → Type 0} {at : ℕ} {old new : List Node} {p n : ℕ} → Made get Is at old new p n → (i : ℕ) → i < length old → i < length new
 later {old = old} a i h = omega (arith, ap length a.kept, length-append old a.more)
-
-pub take_short : (n : ℕ) (l : List Node) → length (take n l) ≤ n
-take_short n l = omega (arith, length-take n l)

@@ -1,15 +1,15 @@
 pub mod Nodes
 pub mod Things
 pub mod Grown
-pub mod Fronts
 pub mod Spotted
 pub mod Scans
 pub mod Sofar
+pub mod Tags
 pub mod Peeks
 pub mod Numbers
 pub mod Faults
 pub mod Bounds
-pub mod Rooms
+pub mod Joins
 pub mod ClaimSteps
 pub mod Steps
 pub mod Finish

@@ -1,5 +1,7 @@
 -- Nodes that come after their parts.
-use Rattle.std.proofs.Common.{◌≡◌, ℕ, zero, suc, ◌+◌, ◌<◌, Bool, true, ◌&&◌, ltb, List, [], ◌∷◌, ◌++◌, length, get_or, sym, refl, subst, add-zero, zero-add, arith}
+use Rattle.std.proofs.Common.{◌≡◌, ℕ, zero, suc, ◌+◌, ◌<◌, Bool, true, ◌&&◌, ltb, List, [], ◌∷◌, ◌++◌, length, get_or, sym, refl, subst, ⊎_elim, add-zero, zero-add, arith}
+use Rattle.std.proofs.lemmas.List.{get_or_past}
+use Rattle.std.proofs.str.Laws.{order}
 use Rattle.std.proofs.lemmas.Bool.Decides.{nat_tests}
 use Rattle.rule.specs.declared.node.Node.{Node}
 use Rattle.rule.specs.declared.node.Node.TheVariants.{Empty, Claim, Alternative, Sequence, Star, Implication, Disjunction, Conjunction, Negation, Truth, Presence, Comparison, First, More}
@@ -75,9 +77,12 @@ below_at k (n ∷ ns) (suc i) o h =
     let e : k + 1 + i ≡ k + suc i = omega arith in
     subst (λ j. below j (get_or ns i Empty) ≡ true) e (below_at (k + 1) ns i (right_of (below k n) _ o) (omega arith))
 
--- the first of the nodes is the k-th
-pub parts_at : (k : ℕ) (ns : List Node) (i : ℕ) → ordered k ns ≡ true → i < length ns → PartsBelow (k + i) (get_or ns i Empty)
-parts_at k ns i o h = parts_below (k + i) (get_or ns i Empty) (below_at k ns i o h)
+-- a node that is there has its parts before it, and an empty pattern has none
+pub parts_at : (ns : List Node) (i : ℕ) → ordered 0 ns ≡ true → PartsBelow i (get_or ns i Empty)
+parts_at ns i o =
+    ⊎_elim (λ h. subst (λ k. PartsBelow k (get_or ns i Empty)) (zero-add i) (parts_below (0 + i) (get_or ns i Empty) (below_at 0 ns i o h)))
+    (λ h. subst (PartsBelow i) (sym (get_or_past ns i Empty h)) tt)
+    (order i (length ns))
 
 pub ordered_rest : (k : ℕ) (n : Node) (ns : List Node) → ordered k (n ∷ ns) ≡ true → ordered (k + 1) ns ≡ true
 ordered_rest k n ns o = right_of (below k n) _ o

@@ -7,15 +7,14 @@ use Rattle.grammar.specs.Symbol.{Symbol, Underscore, Number}
 use Rattle.rule.specs.declared.tokens.Tokens.{Tokens}
 use Rattle.rule.specs.Tagging.{number_at}
 use Rattle.rule.specs.Spots.{symbol, symbol_at}
+use Rattle.rule.specs.Readers.{Next}
 use Rattle.rule.specs.Stored.{spots_of, symbols_of, number_in}
 use Rattle.rule.proofs.Spotted.{unread, place_here}
-use Rattle.rule.proofs.Peeks.{Next}
 
 differ : {A : Type 0} → ◌≡◌ {A = ℕ} 0 1 → A
 differ e = absurd (omega arith)
 
 symbol_number : (k : Tag) (m n : ℕ) → symbol k m ≡ Number n → m ≡ n
-symbol_number tags.End m n e = differ (cc)
 symbol_number tags.LeftSquare m n e = differ (cc)
 symbol_number tags.RightSquare m n e = differ (cc)
 symbol_number tags.LeftRound m n e = differ (cc)
@@ -47,4 +46,4 @@ number_here t at n h =
     let is : get_or (symbols_of t) at Underscore ≡ Number n = first (sym (drop-cons (symbols_of t) at Underscore h.within) ∙ h.here) in
     let k = get_or ss at unread in
     sym (symbol_number k.tag (number_at text k.place) n (sym (get_or-map (symbol_at text) ss at unread Underscore inside) ∙ is))
-    ∙ ap (number_at text) (place_here text ss at (length text) inside)
+    ∙ ap (number_at text) (place_here ss at (length text) inside)

@@ -1,16 +1,10 @@
 -- What comes next at an index of the tokens, by the tag that stands there.
-use Rattle.std.proofs.Common.{◌≡◌, ℕ, zero, suc, ◌+◌, ◌<◌, Bool, true, false, T, List, [], ◌∷◌, length, drop, sym, refl, ap, ◌∙◌, add-one, arith}
+use Rattle.std.proofs.Common.{◌≡◌, ℕ, zero, suc, ◌<◌, List, [], ◌∷◌, length, drop, Some, None, sym, refl, ap, ◌∙◌, add-one, arith}
 use Rattle.grammar.specs.declared.Tag.{Tag}
-use Rattle.grammar.specs.declared.Tag.TheVariants as tags
 use Rattle.grammar.specs.Symbol.{Symbol, LeftSquare, RightSquare, LeftRound, RightRound, Bar, Dot, Star, Underscore, Quote, Arrow, And, Or, Not, Has, True, Additive, Relational, Number, FieldName, tag}
-use Rattle.rule.specs.Spots.{real, symbol, next_tag}
-use Rattle.rule.specs.Readers.{Lacks, LacksAll}
-use Rattle.rule.proofs.Spotted.{real_tag}
-
--- the symbol s stands at p
-pub record Next (ts : List Symbol) (p : ℕ) (s : Symbol) : Type 0 where
-  pub within : p < length ts
-  pub here : drop p ts ≡ s ∷ drop (p + 1) ts
+use Rattle.rule.specs.Spots.{symbol, next_tag}
+use Rattle.rule.specs.Readers.{Lacks, LacksAll, Next}
+use Rattle.rule.proofs.Spotted.{tag_symbol}
 
 no_cons : {s : Symbol} {l : List Symbol} → [] ≡ s ∷ l → ⊥
 no_cons e = let z : ◌≡◌ {A = ℕ} 0 1 = cc in omega arith
@@ -67,82 +61,28 @@ symbol_tag (Relational x) = refl
 symbol_tag (Number x) = refl
 symbol_tag (FieldName x) = refl
 
-not_end : (s : Symbol) → tag s ≡ tags.End → ⊥
-not_end s e = let p : true ≡ false = sym (real_tag s) ∙ ap real e in let z : ◌≡◌ {A = ℕ} 0 1 = cc in omega arith
+no_some : {k : Tag} → Some k ≡ None → ⊥
+no_some e = let z : ◌≡◌ {A = ℕ} 0 1 = cc in omega arith
 
--- a tag other than a number's
-abbrev pub plain : Tag → Bool
-plain tags.End = true
-plain tags.LeftSquare = true
-plain tags.RightSquare = true
-plain tags.LeftRound = true
-plain tags.RightRound = true
-plain tags.Bar = true
-plain tags.Dot = true
-plain tags.Star = true
-plain tags.Underscore = true
-plain tags.Quote = true
-plain tags.Arrow = true
-plain tags.And = true
-plain tags.Or = true
-plain tags.Not = true
-plain tags.Has = true
-plain tags.True = true
-plain (tags.Additive x) = true
-plain (tags.Relational x) = true
-plain tags.Number = false
-plain (tags.FieldName x) = true
+some_is : {j k : Tag} → Some j ≡ Some k → j ≡ k
+some_is e = cc
 
-plain_symbol : (k : Tag) (m n : ℕ) → T (plain k) → symbol k m ≡ symbol k n
-plain_symbol tags.End m n h = refl
-plain_symbol tags.LeftSquare m n h = refl
-plain_symbol tags.RightSquare m n h = refl
-plain_symbol tags.LeftRound m n h = refl
-plain_symbol tags.RightRound m n h = refl
-plain_symbol tags.Bar m n h = refl
-plain_symbol tags.Dot m n h = refl
-plain_symbol tags.Star m n h = refl
-plain_symbol tags.Underscore m n h = refl
-plain_symbol tags.Quote m n h = refl
-plain_symbol tags.Arrow m n h = refl
-plain_symbol tags.And m n h = refl
-plain_symbol tags.Or m n h = refl
-plain_symbol tags.Not m n h = refl
-plain_symbol tags.Has m n h = refl
-plain_symbol tags.True m n h = refl
-plain_symbol (tags.Additive x) m n h = refl
-plain_symbol (tags.Relational x) m n h = refl
-plain_symbol tags.Number m n h = absurd h
-plain_symbol (tags.FieldName x) m n h = refl
+-- the symbol with a tag
+pub of_tag : (s : Symbol) (k : Tag) → Some k ≡ Some (tag s) → s ≡ symbol k (value s)
+of_tag s k e = sym (symbol_tag s) ∙ ap (λ j. symbol j (value s)) (sym (some_is e))
 
-pub same_symbol : (s t : Symbol) → T (plain (tag s)) → tag s ≡ tag t → t ≡ s
-same_symbol s t h e =
-    sym (symbol_tag t) ∙ ap (λ k. symbol k (value t)) (sym e) ∙ plain_symbol (tag s) (value t) (value s) h ∙ symbol_tag s
-
--- the tag of s stands at p
-pub here : (ts : List Symbol) (p : ℕ) (s : Symbol) → tag s ≡ next_tag (drop p ts) → T (plain (tag s)) → Next ts p s
-here ts p s e h = by_list (drop p ts) refl e
+pub at_tag : (ts : List Symbol) (p : ℕ) (k : Tag) → Some k ≡ next_tag (drop p ts) → (n : ℕ) × Next ts p (symbol k n)
+at_tag ts p k e = by_list (drop p ts) refl e
   where
-    by_list : (l : List Symbol) → drop p ts ≡ l → tag s ≡ next_tag l → Next ts p s
-    by_list [] q e = absurd (not_end s e)
-    by_list (t ∷ l) q e = stands ts p s l (q ∙ ap (λ x. x ∷ l) (same_symbol s t h e))
+    by_list : (l : List Symbol) → drop p ts ≡ l → Some k ≡ next_tag l → (n : ℕ) × Next ts p (symbol k n)
+    by_list [] q e = absurd (no_some e)
+    by_list (t ∷ l) q e = (value t, stands ts p (symbol k (value t)) l (q ∙ ap (λ x. x ∷ l) (of_tag t k e)))
 
-number_is : (t : Symbol) → tags.Number ≡ tag t → t ≡ Number (value t)
-number_is t e = sym (symbol_tag t) ∙ ap (λ k. symbol k (value t)) (sym e)
+-- no symbol with the tag k comes next
+pub not_tag : (l : List Symbol) (k : Tag) → (next_tag l ≡ Some k → ⊥) → (n : ℕ) → Lacks (symbol k n) l
+not_tag [] k h n = tt
+not_tag (t ∷ l) k h n = λ e. h (ap Some (ap tag e ∙ tag_symbol k n))
 
--- some number stands at p
-pub here_number : (ts : List Symbol) (p : ℕ) → tags.Number ≡ next_tag (drop p ts) → (n : ℕ) × Next ts p (Number n)
-here_number ts p e = by_list (drop p ts) refl e
-  where
-    by_list : (l : List Symbol) → drop p ts ≡ l → tags.Number ≡ next_tag l → (n : ℕ) × Next ts p (Number n)
-    by_list [] q e = absurd (not_end (Number 0) e)
-    by_list (t ∷ l) q e = (value t, stands ts p (Number (value t)) l (q ∙ ap (λ x. x ∷ l) (number_is t e)))
-
--- another tag than that of s stands there
-pub lacks : (s : Symbol) (l : List Symbol) {k : Tag} → k ≡ next_tag l → (k ≡ tag s → ⊥) → Lacks s l
-lacks s [] e n = tt
-lacks s (t ∷ l) e n = λ p. n (e ∙ ap tag p)
-
-pub lacks_all : {X : Type 0} (f : X → Symbol) (l : List Symbol) {k : Tag} → k ≡ next_tag l → ((x : X) → k ≡ tag (f x) → ⊥) → LacksAll f l
-lacks_all f [] e n = tt
-lacks_all f (t ∷ l) e n = λ x p. n x (e ∙ ap tag p)
+pub lacks_all : {X : Type 0} (f : X → Symbol) (l : List Symbol) → ((x : X) → Lacks (f x) l) → LacksAll f l
+lacks_all f [] h = tt
+lacks_all f (t ∷ l) h = h

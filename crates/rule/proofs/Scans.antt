@@ -18,8 +18,7 @@ use Rattle.grammar.specs.Spelling.{space, word_part, Word, Digits, Spells, value
 use Rattle.grammar.specs.Marks.{mark_of_bytes, mark_of_byte}
 use Rattle.grammar.specs.Cutting.{Longest, Placed, placed, Cut, cut_end, cut_space, cut_token, Uncut, uncut_byte, uncut_lexeme, uncut_space, uncut_later}
 use Rattle.grammar.proofs.Lexemes.{word_longest, number_longest, word_is, digits_is, two_longest, one_longest, none_begins, true_T}
-use Rattle.rule.specs.declared.cutter.Class.TheVariants.{Space}
-use Rattle.rule.specs.Scanning.{member, tagged, sized, or_else, Piece, word, number, mark, Scanned, over, refused, cut, marked, front, past, scanned}
+use Rattle.rule.specs.Scanning.{is_space, tagged, sized, or_else, Piece, word, number, mark, Scanned, over, refused, cut, marked, front, past, scanned}
 use Rattle.rule.specs.Tagging.{Spelled, Tagged, or_zero}
 use Rattle.rule.specs.Spots.{spot, symbol as symbol_with, symbol_at}
 
@@ -46,9 +45,9 @@ one_token {s = s} l e = record { goes = λ us c. cut_token l e c; fails = λ p u
 
 -- k spaces stand first, and then none
 abbrev Spaced : ℕ → List ℕ → ℕ → Type 0
-Spaced n bs k = Leads n bs (n + k) (drop k bs) [] × (prefix_len (member Space) (drop k bs) ≡ 0)
+Spaced n bs k = Leads n bs (n + k) (drop k bs) [] × (prefix_len is_space (drop k bs) ≡ 0)
 
-spaces : (n : ℕ) (bs : List ℕ) → Spaced n bs (prefix_len (member Space) bs)
+spaces : (n : ℕ) (bs : List ℕ) → Spaced n bs (prefix_len is_space bs)
 spaces n [] = (rw add-zero stays, refl)
 spaces n (b ∷ bs) =
     let later = spaces (n + 1) bs in
@@ -159,7 +158,7 @@ two_front n b (c ∷ bs) s d e =
     let is = two_longest b c bs s e in
     at_lexeme (mark (tag s)) 2 (omega arith) is.0 (λ r. mark_says s b (c ∷ []) _ n r d is.1)
 
-front_view : (n : ℕ) (bs : List ℕ) → prefix_len (member Space) bs ≡ 0 → Front n bs (front n bs)
+front_view : (n : ℕ) (bs : List ℕ) → prefix_len is_space bs ≡ 0 → Front n bs (front n bs)
 front_view n [] z = at_end cut_end
 front_view n (b ∷ bs) z =
     cond_both (is_ascii_alphabetic b) _ _ (Front n (b ∷ bs))
@@ -169,7 +168,7 @@ front_view n (b ∷ bs) z =
     (λ d. by_marks l d (mark_of_bytes b (get_or bs 0 0)) (mark_of_byte b) refl refl))
   where
     no_space : b ≡ space → ⊥
-    no_space h = omega (arith, ap (λ a. prefix_len (member Space) (a ∷ bs)) h)
+    no_space h = omega (arith, ap (λ a. prefix_len is_space (a ∷ bs)) h)
 
     by_marks : is_ascii_alphabetic b ≡ false → is_ascii_digit b ≡ false → (o q : Option Symbol) → mark_of_bytes b (get_or bs 0 0) ≡ o → mark_of_byte b ≡ q → Front n (b ∷ bs) (marked n (or_else (sized 2 (tagged o)) (sized 1 (tagged q))))
     by_marks l d (Some s) q e f = two_front n b bs s d e
@@ -205,10 +204,10 @@ module _ (text : List ℕ) (at : ℕ) where
   abbrev ahead : List ℕ
   ahead = drop place text
 
-  begins : Leads at (drop at text) place ahead [] × (prefix_len (member Space) ahead ≡ 0)
+  begins : Leads at (drop at text) place ahead [] × (prefix_len is_space ahead ≡ 0)
   begins =
-      subst (λ l. Leads at (drop at text) place l [] × (prefix_len (member Space) l ≡ 0))
-      (drop-drop (prefix_len (member Space) (drop at text)) at text)
+      subst (λ l. Leads at (drop at text) place l [] × (prefix_len is_space l ≡ 0))
+      (drop-drop (prefix_len is_space (drop at text)) at text)
       (spaces at (drop at text))
 
   after : (k : ℕ) → k ≤ length ahead → Longest (take k ahead) (drop k ahead) → (r : Result Tag Refusal) → Says (take k ahead) (first_number ahead) place r → After text at place (place + k) r

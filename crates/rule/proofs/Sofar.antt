@@ -1,5 +1,5 @@
 -- What one turn of `Tokens::cut` keeps.
-use Rattle.std.proofs.Common.{◌≡◌, ℕ, zero, suc, ◌≤◌, List, [], ◌∷◌, ◌++◌, map, length, take, drop, sym, refl, ap, ◌∙◌, subst, append-nil, zero-le}
+use Rattle.std.proofs.Common.{◌≡◌, ℕ, zero, suc, List, [], ◌∷◌, ◌++◌, map, take, drop, sym, refl, ap, ◌∙◌, subst, append-nil}
 use Rattle.std.proofs.lemmas.List.{map_push, take-map}
 use Rattle.grammar.specs.declared.Refusal.{Refusal}
 use Rattle.grammar.specs.declared.Tag.{Tag}
@@ -14,7 +14,6 @@ use Rattle.rule.proofs.Scans.{Leads, stays, on, Fails, Next, Found, found}
 -- the tokens up to where the cutter stands are in the table, as many as there is room for
 pub record Sofar (text : List ℕ) (k : Cutter) (t : Tokens) : Type 0 where
   pub same : k.text.now ≡ text
-  pub ready : k.at ≤ length text
   pub own : t.text.now ≡ text
   pub all : List Placed
   pub leads : Leads 0 text k.at (drop k.at text) all
@@ -24,7 +23,6 @@ pub record Sofar (text : List ℕ) (k : Cutter) (t : Tokens) : Type 0 where
 pub begun : {text : List ℕ} {k : Cutter} {t : Tokens} → k.text.now ≡ text → k.at ≡ 0 → t.text.now ≡ text → spots_of t ≡ [] → Sofar text k t
 begun {text} same at own none = record {
   same = same;
-  ready = subst (λ n. n ≤ length text) (sym at) zero-le;
   own = own;
   all = [];
   leads = subst (λ n. Leads 0 text n (drop n text) []) (sym at) stays;
@@ -66,12 +64,11 @@ module _ {text : List ℕ} {k : Cutter} {t : Tokens} (s : Sofar text k t) where
     places = s.places;
   }
 
-  pub one_more : {n : Cutter} {u : Tokens} {place : ℕ} {g : Tag} → Next text k.at place n.at g → n.text.now ≡ k.text.now → n.at ≤ length n.text.now → u.text.now ≡ t.text.now → spots_of u ≡ take 501 (spots_of t ++ spot g place ∷ []) → Sofar text n u
-  one_more {n} {u} {place} {g} next same ready own push =
+  pub one_more : {n : Cutter} {u : Tokens} {place : ℕ} {g : Tag} → Next text k.at place n.at g → n.text.now ≡ k.text.now → u.text.now ≡ t.text.now → spots_of u ≡ take 501 (spots_of t ++ spot g place ∷ []) → Sofar text n u
+  one_more {n} {u} {place} {g} next same own push =
       let x = placed next.symbol place in
       record {
         same = same ∙ s.same;
-        ready = subst (λ l. n.at ≤ length l) (same ∙ s.same) ready;
         own = own ∙ s.own;
         all = s.all ++ x ∷ [];
         leads = on s.leads next.leads;

@@ -11,8 +11,7 @@ use Rattle.grammar.specs.Machine.{Frame, frame, want, have, Next as Step, stop, 
 use Rattle.grammar.proofs.Complete.{NoStar, NoDot, PieceOver, ChainOver, chain_takes, rule_takes, inside_runs, then_have}
 use Rattle.grammar.proofs.Sound.{run_rule}
 use Rattle.grammar.proofs.Fault.{first_bad}
-use Rattle.rule.specs.Readers.{Lacks, BaseEnds, BaseFails, PieceEnds, ChainSoFar, ChainEnds, ChainFails, RuleSoFar, RuleEnds, RuleFails}
-use Rattle.rule.proofs.Peeks.{Next}
+use Rattle.rule.specs.Readers.{Next, Lacks, BaseEnds, BaseFails, PieceEnds, ChainSoFar, ChainEnds, RuleSoFar, RuleEnds, RuleFails}
 
 by_step : (t : Symbol) (ts : List Symbol) {m n : Step} → m ≡ n → follow m t ts (λ s. run s ts) ≡ follow n t ts (λ s. run s ts)
 by_step t ts e = ap (λ (n : Step). follow n t ts (λ s. run s ts)) e
@@ -77,15 +76,6 @@ module _ (ts : List Symbol) where
   pub base_stops : (at : ℕ) → at ≤ length ts → Lacks Underscore (drop at ts) → Lacks LeftRound (drop at ts) → Lacks LeftSquare (drop at ts) → BaseFails ts at at
   base_stops at h a b c = record { within = h; runs = λ f K. want_bad f K (drop at ts) a b c }
 
-  pub base_round : (at p : ℕ) (x : Pattern) → Next ts at LeftRound → RuleEnds ts (at + 1) p x → Next ts p RightRound → BaseEnds ts at (p + 1) x
-  base_round at p x m r n =
-      let s : RuleSoFar ts (at + 1) p x = r.so_far in
-      record {
-        on = omega (arith, s.on);
-        within = omega (arith, n.within);
-        runs = λ f K. ap (run (want f K)) m.here ∙ s.runs (f ∷ K) ∙ ap (run (have (frame none none) (f ∷ K) x)) n.here;
-      }
-
   pub base_unclosed : (at p : ℕ) (x : Pattern) → Next ts at LeftRound → RuleEnds ts (at + 1) p x → Lacks RightRound (drop p ts) → BaseFails ts at p
   base_unclosed at p x m r n =
       let s : RuleSoFar ts (at + 1) p x = r.so_far in
@@ -93,9 +83,6 @@ module _ (ts : List Symbol) where
         within = s.within;
         runs = λ f K. ap (run (want f K)) m.here ∙ s.runs (f ∷ K) ∙ round_bad none none f K x (drop p ts) s.star_over s.dot_over r.over n;
       }
-
-  pub base_inner : (at k : ℕ) → Next ts at LeftRound → RuleFails ts (at + 1) k → BaseFails ts at k
-  base_inner at k m r = record { within = r.within; runs = λ f K. ap (run (want f K)) m.here ∙ r.runs (f ∷ K) }
 
   pub base_square : (at p : ℕ) (x : Claim) → Next ts at LeftSquare → at < p → p ≤ length ts → claim_run claim_start (drop (at + 1) ts) ≡ claim_good x (drop p ts) → BaseEnds ts at p (claim x)
   base_square at p x m h k e = record {
@@ -110,9 +97,6 @@ module _ (ts : List Symbol) where
   pub piece_more : (at p : ℕ) (x : Pattern) → BaseEnds ts at p x → Next ts p Star → BaseEnds ts at (p + 1) (star x)
   piece_more at p x b n = record { on = omega (arith, b.on); within = omega (arith, n.within); runs = λ f K. b.runs f K ∙ ap (run (have f K x)) n.here }
 
-  pub chain_first : (at p : ℕ) (x : Pattern) → PieceEnds ts at p x → ChainSoFar ts at p x
-  chain_first at p x b = record { on = b.base.on; within = b.base.within; runs = λ r K. b.base.runs (frame r none) K; star_over = b.over }
-
   pub chain_more : (at p q : ℕ) (x y : Pattern) → ChainSoFar ts at p x → Next ts p Dot → PieceEnds ts (p + 1) q y → ChainSoFar ts at q (sequence x y)
   chain_more at p q x y s n b = record {
     on = omega (arith, s.on, b.base.on);
@@ -121,15 +105,6 @@ module _ (ts : List Symbol) where
         ∙ chain_takes r (some x) K y (drop q ts) (piece_is_over (drop q ts) b.over);
     star_over = b.over;
   }
-
-  pub chain_fails : (at p k : ℕ) (x : Pattern) → ChainSoFar ts at p x → Next ts p Dot → BaseFails ts (p + 1) k → ChainFails ts at k
-  chain_fails at p k x s n b = record { within = b.within; runs = λ r K. s.runs r K ∙ ap (run (have (frame r none) K x)) n.here ∙ b.runs (frame r (some x)) K }
-
-  pub chain_none : (at k : ℕ) → BaseFails ts at k → ChainFails ts at k
-  chain_none at k b = record { within = b.within; runs = λ r K. b.runs (frame r none) K }
-
-  pub rule_first : (at p : ℕ) (x : Pattern) → ChainEnds ts at p x → RuleSoFar ts at p x
-  rule_first at p x b = record { on = b.so_far.on; within = b.so_far.within; runs = λ K. b.so_far.runs none K; star_over = b.so_far.star_over; dot_over = b.over }
 
   pub rule_more : (at p q : ℕ) (x y : Pattern) → RuleSoFar ts at p x → Next ts p Bar → ChainEnds ts (p + 1) q y → RuleSoFar ts at q (alternative x y)
   rule_more at p q x y s n b =
@@ -142,12 +117,6 @@ module _ (ts : List Symbol) where
         star_over = c.star_over;
         dot_over = b.over;
       }
-
-  pub rule_fails : (at p k : ℕ) (x : Pattern) → RuleSoFar ts at p x → Next ts p Bar → ChainFails ts (p + 1) k → RuleFails ts at k
-  rule_fails at p k x s n b = record { within = b.within; runs = λ K. s.runs K ∙ ap (run (have (frame none none) K x)) n.here ∙ b.runs (some x) K }
-
-  pub rule_none : (at k : ℕ) → ChainFails ts at k → RuleFails ts at k
-  rule_none at k b = record { within = b.within; runs = λ K. b.runs none K }
 
   -- the whole
   fails_at : (k : ℕ) → k ≤ length ts → run start ts ≡ bad (drop k ts) → FirstBad ts k

@@ -1,13 +1,15 @@
 -- What numbered nodes stand for.
-use Rattle.std.proofs.Common.{◌≡◌, ℕ, zero, suc, ◌+◌, ◌<◌, ◌≤◌, true, false, List, [], ◌∷◌, ◌++◌, map, length, get_or, take, sym, refl, ap, ◌∙◌, subst, arith, length-append, length-take, get_or-take}
-use Rattle.std.proofs.lemmas.List.{get_or_append_left, get_or_past, get_or-map, map_push}
+use Rattle.std.proofs.Common.{◌≡◌, ℕ, zero, suc, ◌+◌, ◌<◌, ◌≤◌, true, List, [], ◌∷◌, ◌++◌, map, length, get_or, sym, refl, ap, ◌∙◌, subst, ⊎_elim, arith, length-append}
+use Rattle.std.proofs.lemmas.List.{get_or_append_left, get_or_past, map_push}
+use Rattle.std.proofs.Math.ListN.{get_or-map}
+use Rattle.std.proofs.str.Laws.{order}
 use Rattle.rule.specs.declared.node.Node.{Node}
 use Rattle.rule.specs.declared.node.Node.TheVariants.{Empty, Claim, Alternative, Sequence, Star, Implication, Disjunction, Conjunction, Negation, Truth, Presence, Comparison, First, More}
-use Rattle.rule.specs.declared.summary.Summary.{Summary}
+use Rattle.rule.specs.declared.entry.Entry.{Entry}
 use Rattle.rule.specs.Summaries.{summary}
 use Rattle.rule.specs.Order.{ordered, PartsBelow}
-use Rattle.rule.specs.Trees.{Thing, as_pattern, blank, made, things, thing, node_at, summaries_of, summary_at, summary_with}
-use Rattle.grammar.specs.Tree.{implication, disjunction, conjunction, negation, comparison, claim, alternative, sequence, star, more}
+use Rattle.rule.specs.Trees.{Thing, as_pattern, blank, made, things, thing, node_at, summaries_of, summary_at, summary_with, nodes_in, summaries_in}
+use Rattle.grammar.specs.Tree.{implication, disjunction, conjunction, negation, comparison, empty, claim, alternative, sequence, star, more}
 use Rattle.rule.specs.Trees.{as_claim, as_sum, a_pattern, a_claim, a_sum}
 use Rattle.rule.proofs.Nodes.{ordered_first, ordered_rest}
 
@@ -77,27 +79,30 @@ node_thing ts (n ∷ ns) (suc i) o h =
     ap (λ j. get_or (things us ns) j blank) z
     ∙ node_thing us ns i (subst (λ k. ordered k ns ≡ true) (sym long) (ordered_rest (length ts) n ns o)) (omega arith)
 
--- what the node i stands for, by what its parts stand for
-pub thing_made : (ns : List Node) (i : ℕ) → ordered 0 ns ≡ true → i < length ns → thing ns i ≡ made (things [] ns) (node_at ns i)
-thing_made ns i o h =
+thing_within : (ns : List Node) (i : ℕ) → ordered 0 ns ≡ true → i < length ns → thing ns i ≡ made (things [] ns) (node_at ns i)
+thing_within ns i o h =
     let z : i ≡ 0 + i = omega arith in
     ap (λ j. thing ns j) z ∙ node_thing [] ns i o h
 
-pub thing_past : (ns : List Node) (i : ℕ) → length ns ≤ i → thing ns i ≡ blank
+thing_past : (ns : List Node) (i : ℕ) → length ns ≤ i → thing ns i ≡ blank
 thing_past ns i h = get_or_past (things [] ns) i blank (omega (arith, things_length [] ns))
 
--- what a read past the end would give
-abbrev pub unread : Summary
-unread = record { nullable = false; claims = 0; last = 0 }
+-- what the node i stands for, by what its parts stand for; past the end there is an empty pattern
+pub thing_made : (ns : List Node) (i : ℕ) → ordered 0 ns ≡ true → thing ns i ≡ made (things [] ns) (node_at ns i)
+thing_made ns i o =
+    ⊎_elim (λ h. thing_within ns i o h)
+    (λ h. thing_past ns i h ∙ sym (ap (made (things [] ns)) (get_or_past ns i Empty h)))
+    (order i (length ns))
+
+-- the entry of an empty pattern
+abbrev pub blank_entry : Entry
+blank_entry = record { node = Empty; summary = summary empty }
 
 -- the stored summaries are those of the nodes
-module _ (nodes : List Node) (sums : List Summary) (len : ℕ) (e : take len sums ≡ summaries_of (take len nodes)) where
-  pub summary_stored : (i : ℕ) → i < length (take len nodes) → get_or sums i unread ≡ summary_at (take len nodes) i
-  summary_stored i h =
-      let d = unread in
-      let k : i < len = omega (arith, length-take len nodes) in
-      sym (get_or-take len sums i d k) ∙ ap (λ l. get_or l i d) e
-      ∙ get_or-map (λ t. summary (as_pattern t)) (things [] (take len nodes)) i blank d (omega (arith, things_length [] (take len nodes)))
+pub summary_stored : (es : List Entry) → summaries_in es ≡ summaries_of (nodes_in es) → (i : ℕ) → (get_or es i blank_entry).summary ≡ summary_at (nodes_in es) i
+summary_stored es e i =
+    sym (get_or-map (λ x. x.summary) es i blank_entry) ∙ ap (λ l. get_or l i (summary empty)) e
+    ∙ get_or-map (λ t. summary (as_pattern t)) (things [] (nodes_in es)) i blank
 
 pub summaries_push : (old new : List Node) (v : Node) → new ≡ old ++ v ∷ [] → summaries_of new ≡ summaries_of old ++ summary_with old v ∷ []
 summaries_push old new v e =

@@ -1,11 +1,11 @@
 -- What a reading adds to a tree.
-use Rattle.std.specs.Prelude.{◌≡◌, ℕ, ◌+◌, ◌<◌, ◌≤◌, List, ◌++◌, length, take}
+use Rattle.std.specs.Prelude.{◌≡◌, ℕ, ◌+◌, ◌<◌, ◌≤◌, List, ◌++◌, length}
 use Rattle.rule.specs.declared.node.Node.{Node}
 use Rattle.rule.specs.declared.tree.Tree.{Tree}
-use Rattle.rule.specs.Trees.{Thing, thing}
+use Rattle.rule.specs.Trees.{Thing, thing, nodes_in}
 
 abbrev pub nodes_of : Tree → List Node
-nodes_of t = take t.len t.nodes
+nodes_of t = nodes_in t.entries.items
 
 -- a reading from the token `at` to the token p put nodes after the old ones, no more than it took tokens, and the node n stands
 -- for what was read

@@ -1,6 +1,6 @@
--- What the readers answer, from a token on: where the thing ends and its tree, or the first bad token. The answers are equations
--- between runs of the grammar's machine, for every context that the thing may stand in.
-use Rattle.std.specs.Prelude.{◌≡◌, ℕ, zero, ◌+◌, ◌<◌, ◌≤◌, ◌⊎◌, List, [], ◌∷◌, length, drop, Ok, Err, Result, ◌≢◌}
+-- What the methods of the reader do, from a token on: where the thing ends and its tree, or the first bad token. The facts are
+-- equations between runs of the grammar's machine, for every context that the thing may stand in.
+use Rattle.std.specs.Prelude.{◌≡◌, ℕ, zero, ◌+◌, ◌<◌, ◌≤◌, Bool, true, false, ◌⊎◌, List, [], ◌∷◌, ◌++◌, length, drop, Some, None, Option as Maybe, Ok, Err, Result, ◌≢◌}
 use Rattle.std.proofs.Math.Option.{Option, none}
 use Rattle.grammar.specs.declared.Refusal.{Refusal}
 use Rattle.grammar.specs.declared.Refusal.TheVariants.{Unexpected}
@@ -18,8 +18,11 @@ use Rattle.grammar.specs.ClaimMachine.{ClaimFrame, claim_frame, fresh, with_if, 
 use Rattle.grammar.specs.Machine.{Frame, frame, want, have, run, bad}
 use Rattle.rule.specs.declared.tokens.Tokens.{Tokens}
 use Rattle.rule.specs.declared.tree.Tree.{Tree}
-use Rattle.rule.specs.declared.reader.Found.{Found}
-use Rattle.rule.specs.Trees.{as_pattern, as_claim, as_sum, pattern}
+use Rattle.rule.specs.declared.reader.Reader.{Reader}
+use Rattle.rule.specs.declared.node.Node.{Node}
+use Rattle.grammar.specs.declared.Tag.{Tag}
+use Rattle.rule.specs.Spots.{symbol}
+use Rattle.rule.specs.Trees.{Thing, pattern}
 use Rattle.rule.specs.Built.{nodes_of, Made}
 use Rattle.rule.specs.Stored.{symbols_of, Caused}
 
@@ -33,15 +36,10 @@ abbrev pub LacksAll : {X : Type 0} → (X → Symbol) → List Symbol → Type 0
 LacksAll f [] = Unit {0}
 LacksAll {X} f (t ∷ ts) = (x : X) → t ≢ f x
 
--- a place among few tokens
-pub record Inside (ts : List Symbol) (at : ℕ) : Type 0 where
-  pub within : at ≤ length ts
-  pub short : length ts ≤ 500
-
--- and room for a node for each token left
-pub record Ready (t : Tree) (ts : List Symbol) (at : ℕ) : Type 0 where
-  pub inside : Inside ts at
-  pub room : length (nodes_of t) + length ts ≤ 500 + at
+-- the symbol s stands at p
+pub record Next (ts : List Symbol) (p : ℕ) (s : Symbol) : Type 0 where
+  pub within : p < length ts
+  pub here : drop p ts ≡ s ∷ drop (p + 1) ts
 
 -- one name
 pub data NameEnds (ts : List Symbol) (at : ℕ) : ℕ → Name → Type 0 where
@@ -191,63 +189,74 @@ pub record RuleFails (ts : List Symbol) (at k : ℕ) : Type 0 where
 abbrev pub Faulted : Tokens → (ℕ → Type 0) → Refusal → Type 0
 Faulted t Fails e = Caused Unexpected t Fails e
 
-abbrev pub NameRead : Tokens → ℕ → Result (Name × ℕ) Refusal → Type 0
-NameRead t at (Ok x) = NameEnds (symbols_of t) at x.1 x.0
-NameRead t at (Err e) = Faulted t (NameFails (symbols_of t) at) e
+-- the reader's tokens
+abbrev pub symbols_in : Reader → List Symbol
+symbols_in r = symbols_of r.tokens.now
 
-abbrev pub TermRead : Tokens → ℕ → Result (Term × ℕ) Refusal → Type 0
-TermRead t at (Ok x) = TermEnds (symbols_of t) at x.1 x.0
-TermRead t at (Err e) = Faulted t (TermFails (symbols_of t) at) e
+-- a reader with nothing read
+pub record Begins (t : Tokens) (new : Reader) : Type 0 where
+  pub tokens : new.tokens.now ≡ t
+  pub at : new.at ≡ 0
+  pub tree : nodes_of new.tree ≡ []
 
-abbrev pub FirstRead : Tokens → ℕ → Tree → Tree → Result Found Refusal → Type 0
-FirstRead t at old new (Ok f) = Made as_sum (SumOf (symbols_of t) at 1) at (nodes_of old) (nodes_of new) f.next f.node
-FirstRead t at old new (Err e) = Faulted t (SumFails (symbols_of t) at) e
+-- the reader stepped over the symbol s
+pub record Stepped (s : Symbol) (old new : Reader) : Type 0 where
+  pub tokens : new.tokens.now ≡ old.tokens.now
+  pub tree : new.tree ≡ old.tree
+  pub at : new.at ≡ old.at + 1
+  pub was : Next (symbols_in old) old.at s
 
-abbrev pub SumRead : Tokens → ℕ → Tree → Tree → Result Found Refusal → Type 0
-SumRead t at old new (Ok f) = Made as_sum (SumEnds (symbols_of t) at) at (nodes_of old) (nodes_of new) f.next f.node
-SumRead t at old new (Err e) = Faulted t (SumFails (symbols_of t) at) e
+-- it stepped over a token with this tag, or there is none
+abbrev pub Eaten : Tag → Reader → Reader → Bool → Type 0
+Eaten k old new true = (n : ℕ) × Stepped (symbol k n) old new
+Eaten k old new false = (new ≡ old) × ((n : ℕ) → Lacks (symbol k n) (drop old.at (symbols_in old)))
 
-abbrev pub ComparisonRead : Tokens → ℕ → Tree → Tree → Result Found Refusal → Type 0
-ComparisonRead t at old new (Ok f) = Made as_claim (ComparisonEnds (symbols_of t) at) at (nodes_of old) (nodes_of new) f.next f.node
-ComparisonRead t at old new (Err e) = Faulted t (ComparisonFails (symbols_of t) at) e
+abbrev pub Expected : Tag → Reader → Reader → Result (Unit {0}) Refusal → Type 0
+Expected k old new (Ok x) = (n : ℕ) × Stepped (symbol k n) old new
+Expected k old new (Err e) = Faulted old.tokens.now (λ p. (p ≡ old.at) × ((n : ℕ) → Lacks (symbol k n) (drop old.at (symbols_in old)))) e
 
-abbrev pub SingleRead : Tokens → ℕ → Tree → Tree → Result Found Refusal → Type 0
-SingleRead t at old new (Ok f) = Made as_claim (SingleEnds (symbols_of t) at) at (nodes_of old) (nodes_of new) f.next f.node
-SingleRead t at old new (Err e) = Faulted t (SingleFails (symbols_of t) at) e
+-- it stepped over a symbol of a family, or there is none
+abbrev pub Taken : {X : Type 0} → (X → Symbol) → Reader → Reader → Maybe X → Type 0
+Taken f old new (Some x) = Stepped (f x) old new
+Taken f old new None = (new ≡ old) × LacksAll f (drop old.at (symbols_in old))
 
-abbrev pub BothRead : Tokens → ℕ → Tree → Tree → Result Found Refusal → Type 0
-BothRead t at old new (Ok f) = Made as_claim (BothEnds (symbols_of t) at) at (nodes_of old) (nodes_of new) f.next f.node
-BothRead t at old new (Err e) = Faulted t (BothFails (symbols_of t) at) e
+-- it put the node v into the tree, at n
+pub record Added (v : Node) (old new : Reader) (n : ℕ) : Type 0 where
+  pub tokens : new.tokens.now ≡ old.tokens.now
+  pub at : new.at ≡ old.at
+  pub place : n ≡ length (nodes_of old.tree)
+  pub more : nodes_of new.tree ≡ nodes_of old.tree ++ v ∷ []
 
-abbrev pub EitherRead : Tokens → ℕ → Tree → Tree → Result Found Refusal → Type 0
-EitherRead t at old new (Ok f) = Made as_claim (EitherEnds (symbols_of t) at) at (nodes_of old) (nodes_of new) f.next f.node
-EitherRead t at old new (Err e) = Faulted t (EitherFails (symbols_of t) at) e
+-- it found x, and put no node into the tree
+pub record Found {X : Type 0} (Ends : List Symbol → ℕ → ℕ → X → Type 0) (old new : Reader) (x : X) : Type 0 where
+  pub tokens : new.tokens.now ≡ old.tokens.now
+  pub tree : new.tree ≡ old.tree
+  pub is : Ends (symbols_in old) old.at new.at x
 
-abbrev pub ClaimRead : Tokens → ℕ → Tree → Tree → Result Found Refusal → Type 0
-ClaimRead t at old new (Ok f) = Made as_claim (ClaimEnds (symbols_of t) at) at (nodes_of old) (nodes_of new) f.next f.node
-ClaimRead t at old new (Err e) = Faulted t (ClaimFails (symbols_of t) at) e
+abbrev pub Finds : {X : Type 0} → (List Symbol → ℕ → ℕ → X → Type 0) → (List Symbol → ℕ → ℕ → Type 0) → Reader → Reader → Result X Refusal → Type 0
+Finds Ends Fails old new (Ok x) = Found Ends old new x
+Finds Ends Fails old new (Err e) = Faulted old.tokens.now (Fails (symbols_in old) old.at) e
 
-abbrev pub BaseRead : Tokens → ℕ → Tree → Tree → Result Found Refusal → Type 0
-BaseRead t at old new (Ok f) = Made as_pattern (BaseEnds (symbols_of t) at) at (nodes_of old) (nodes_of new) f.next f.node
-BaseRead t at old new (Err e) = Faulted t (BaseFails (symbols_of t) at) e
+abbrev pub Led : Reader → Reader → Sign → Type 0
+Led old new d = Found (λ ts at p x. Leads ts at x p) old new d
 
-abbrev pub PieceRead : Tokens → ℕ → Tree → Tree → Result Found Refusal → Type 0
-PieceRead t at old new (Ok f) = Made as_pattern (PieceEnds (symbols_of t) at) at (nodes_of old) (nodes_of new) f.next f.node
-PieceRead t at old new (Err e) = Faulted t (BaseFails (symbols_of t) at) e
+-- it read what the node n stands for
+pub record Read {X : Type 0} (get : Thing → X) (Ends : List Symbol → ℕ → ℕ → X → Type 0) (old new : Reader) (n : ℕ) : Type 0 where
+  pub tokens : new.tokens.now ≡ old.tokens.now
+  pub made : Made get (Ends (symbols_in old) old.at) old.at (nodes_of old.tree) (nodes_of new.tree) new.at n
 
-abbrev pub ChainRead : Tokens → ℕ → Tree → Tree → Result Found Refusal → Type 0
-ChainRead t at old new (Ok f) = Made as_pattern (ChainEnds (symbols_of t) at) at (nodes_of old) (nodes_of new) f.next f.node
-ChainRead t at old new (Err e) = Faulted t (ChainFails (symbols_of t) at) e
+abbrev pub Reads : {X : Type 0} → (Thing → X) → (List Symbol → ℕ → ℕ → X → Type 0) → (List Symbol → ℕ → ℕ → Type 0) → Reader → Reader → Result ℕ Refusal → Type 0
+Reads get Ends Fails old new (Ok n) = Read get Ends old new n
+Reads get Ends Fails old new (Err e) = Faulted old.tokens.now (Fails (symbols_in old) old.at) e
 
-abbrev pub RuleRead : Tokens → ℕ → Tree → Tree → Result Found Refusal → Type 0
-RuleRead t at old new (Ok f) = Made as_pattern (RuleEnds (symbols_of t) at) at (nodes_of old) (nodes_of new) f.next f.node
-RuleRead t at old new (Err e) = Faulted t (RuleFails (symbols_of t) at) e
+abbrev pub First : List Symbol → ℕ → ℕ → Sum → Type 0
+First ts at p x = SumOf ts at 1 p x
 
 -- the tokens as a whole
 pub record WholeIs (ts : List Symbol) (new : Tree) (root : ℕ) : Type 0 where
   pub there : root < length (nodes_of new)
   pub derived : Rule ts (pattern (nodes_of new) root)
 
-abbrev pub WholeRead : Tokens → Tree → Result ℕ Refusal → Type 0
-WholeRead t new (Ok root) = WholeIs (symbols_of t) new root
-WholeRead t new (Err e) = Faulted t (FirstBad (symbols_of t)) e
+abbrev pub WholeRead : Tokens → Result (Tree × ℕ) Refusal → Type 0
+WholeRead t (Ok x) = WholeIs (symbols_of t) x.0 x.1
+WholeRead t (Err e) = Faulted t (FirstBad (symbols_of t)) e

@@ -1,5 +1,5 @@
 -- What the cutter finds at a place of a text.
-use Rattle.std.specs.Prelude.{ℕ, ◌+◌, ◌<◌, Bool, cond, List, [], ◌∷◌, take, drop, Some, None, Ok, Err, Option, Result, ◌==◌, slice_index}
+use Rattle.std.specs.Prelude.{ℕ, ◌+◌, Bool, cond, List, [], ◌∷◌, take, drop, Some, None, Ok, Err, Option, Result, ◌==◌, slice_index}
 use Rattle.std.specs.Char.{is_ascii_digit, is_ascii_alphabetic}
 use Rattle.std.specs.List.{prefix_len}
 use Rattle.grammar.specs.declared.Refusal.{Refusal}
@@ -8,15 +8,11 @@ use Rattle.grammar.specs.declared.Tag.{Tag}
 use Rattle.grammar.specs.Symbol.{Symbol, tag}
 use Rattle.grammar.specs.Spelling.{space, word_part}
 use Rattle.grammar.specs.Marks.{mark_of_bytes, mark_of_byte}
-use Rattle.rule.specs.declared.cutter.Class.{Class}
-use Rattle.rule.specs.declared.cutter.Class.TheVariants.{Space, Digit, WordPart}
 use Rattle.rule.specs.declared.cutter.Token.{Token}
 use Rattle.rule.specs.declared.cutter.Token.TheVariants.{Word, Number, Mark}
 
-abbrev pub member : Class → ℕ → Bool
-member Space b = b == space
-member Digit b = is_ascii_digit b
-member WordPart b = word_part b
+abbrev pub is_space : ℕ → Bool
+is_space b = b == space
 
 abbrev pub tagged : Option Symbol → Option Tag
 tagged None = None
@@ -65,18 +61,17 @@ front place (b ∷ bs) =
 
 -- where the next token begins
 abbrev pub past : List ℕ → ℕ → ℕ
-past text at = at + prefix_len (member Space) (drop at text)
+past text at = at + prefix_len is_space (drop at text)
 
 abbrev pub scanned : List ℕ → ℕ → Scanned
 scanned text at = front (past text at) (drop (past text at) text)
 
-abbrev pub told : Result (Option (Token × ℕ)) Refusal → ℕ → Scanned
-told (Ok None) to = over
-told (Ok (Some x)) to = cut (piece x.0) x.1 to
-told (Err e) to = refused e
+abbrev pub lexed : ℕ → Option (Token × ℕ) → Scanned
+lexed place None = refused (NotAToken place)
+lexed place (Some x) = cut (piece x.0) place (place + x.1)
 
--- a token takes some bytes
-abbrev pub Moves : Result (Option (Token × ℕ)) Refusal → ℕ → ℕ → Type 0
-Moves (Ok None) at to = Unit {0}
-Moves (Ok (Some x)) at to = at < to
-Moves (Err e) at to = Unit {0}
+-- what a call of `next` says, after which the cutter stands at `to`
+abbrev pub told : Option (Result (Token × ℕ) Refusal) → ℕ → Scanned
+told None to = over
+told (Some (Ok x)) to = cut (piece x.0) x.1 to
+told (Some (Err e)) to = refused e

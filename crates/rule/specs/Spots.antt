@@ -1,5 +1,5 @@
 -- Stored tokens, and the symbols that they are in their text.
-use Rattle.std.specs.Prelude.{ℕ, Bool, true, false, ◌&&◌, List, [], ◌∷◌, map}
+use Rattle.std.specs.Prelude.{ℕ, List, [], ◌∷◌, map, Some, None, Option}
 use Rattle.grammar.specs.declared.Tag.{Tag}
 use Rattle.grammar.specs.declared.Tag.TheVariants as tags
 use Rattle.grammar.specs.Symbol.{Symbol, LeftSquare, RightSquare, LeftRound, RightRound, Bar, Dot, Star, Underscore, Quote, Arrow, And, Or, Not, Has, True, Additive, Relational, Number, FieldName, tag}
@@ -9,36 +9,8 @@ use Rattle.rule.specs.Tagging.{number_at}
 abbrev pub spot : Tag → ℕ → Spot
 spot k p = record { tag = k; place = p }
 
--- the tag of a token
-abbrev pub real : Tag → Bool
-real tags.End = false
-real tags.LeftSquare = true
-real tags.RightSquare = true
-real tags.LeftRound = true
-real tags.RightRound = true
-real tags.Bar = true
-real tags.Dot = true
-real tags.Star = true
-real tags.Underscore = true
-real tags.Quote = true
-real tags.Arrow = true
-real tags.And = true
-real tags.Or = true
-real tags.Not = true
-real tags.Has = true
-real tags.True = true
-real (tags.Additive s) = true
-real (tags.Relational r) = true
-real tags.Number = true
-real (tags.FieldName f) = true
-
-abbrev pub all_real : List Spot → Bool
-all_real [] = true
-all_real (s ∷ ss) = real s.tag && all_real ss
-
--- the symbol with a tag, if a number then n; no spot has the end's tag, so any symbol does for it
+-- the symbol with a tag, if a number then n
 abbrev pub symbol : Tag → ℕ → Symbol
-symbol tags.End n = Underscore
 symbol tags.LeftSquare n = LeftSquare
 symbol tags.RightSquare n = RightSquare
 symbol tags.LeftRound n = LeftRound
@@ -68,7 +40,7 @@ symbols_at text ss = map (symbol_at text) ss
 abbrev pub places_at : List Spot → List ℕ
 places_at ss = map (λ s. s.place) ss
 
--- the tag of the first symbol, or the end's
-abbrev pub next_tag : List Symbol → Tag
-next_tag [] = tags.End
-next_tag (s ∷ ss) = tag s
+-- the tag of the first symbol, if there is one
+abbrev pub next_tag : List Symbol → Option Tag
+next_tag [] = None
+next_tag (s ∷ ss) = Some (tag s)

@@ -10,7 +10,7 @@ use Rattle.rule.specs.Tagging.{number_at}
 use Rattle.rule.specs.Spots.{symbols_at, places_at}
 
 abbrev pub spots_of : Tokens → List Spot
-spots_of t = take t.len t.spots
+spots_of t = t.spots.items
 
 abbrev pub symbols_of : Tokens → List Symbol
 symbols_of t = symbols_at t.text.now (spots_of t)

@@ -1,5 +1,5 @@
 -- Which token a part of the text is.
-use Rattle.std.specs.Prelude.{◌≡◌, ℕ, ◌<◌, ◌≤◌, Bool, true, false, cond, List, take, drop, Some, None, Ok, Err, Option, Result, nat_le}
+use Rattle.std.specs.Prelude.{◌≡◌, ℕ, ◌<◌, ◌≤◌, cond, List, take, drop, Some, None, Ok, Err, Option, Result, nat_le}
 use Rattle.std.specs.Char.{is_ascii_digit}
 use Rattle.std.specs.List.{prefix_len}
 use Rattle.grammar.specs.declared.Refusal.{Refusal}
@@ -10,10 +10,6 @@ use Rattle.grammar.specs.declared.Tag.TheVariants.{Number}
 use Rattle.grammar.specs.Symbol.{Symbol, FieldName, tag}
 use Rattle.grammar.specs.Spelling.{Word, Spells, valued, greatest}
 use Rattle.rule.specs.Scanning.{Piece, word, number, mark}
-
-abbrev pub Same : List ℕ → List ℕ → Bool → Type 0
-Same a b true = a ≡ b
-Same a b false = a ≡ b → ⊥
 
 -- the bytes spell a symbol with this tag
 pub record Spelled (w : List ℕ) (k : Tag) : Type 0 where

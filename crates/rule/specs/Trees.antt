@@ -3,6 +3,7 @@ use Rattle.std.specs.Prelude.{ℕ, List, [], ◌∷◌, ◌++◌, map, slice_ind
 use Rattle.rule.specs.declared.node.Node.{Node}
 use Rattle.rule.specs.declared.node.Node.TheVariants.{Empty, Claim as ClaimOf, Alternative, Sequence, Star, Implication, Disjunction, Conjunction, Negation, Truth, Presence, Comparison, First, More}
 use Rattle.rule.specs.declared.summary.Summary.{Summary}
+use Rattle.rule.specs.declared.entry.Entry.{Entry}
 use Rattle.rule.specs.Summaries.{summary}
 use Rattle.grammar.specs.Tree.{Sum, first, more, Claim, implication, disjunction, conjunction, negation, truth, presence, comparison, Pattern, empty, claim, alternative, sequence, star}
 use Rattle.grammar.specs.declared.Sign.TheVariants.{Plus}
@@ -73,3 +74,10 @@ summary_at ns i = summary (pattern ns i)
 
 abbrev pub summary_with : List Node → Node → Summary
 summary_with ns n = summary (as_pattern (made (things [] ns) n))
+
+-- the nodes that are stored, and the summaries beside them
+abbrev pub nodes_in : List Entry → List Node
+nodes_in es = map (λ e. e.node) es
+
+abbrev pub summaries_in : List Entry → List Summary
+summaries_in es = map (λ e. e.summary) es

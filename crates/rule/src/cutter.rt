@@ -1,21 +1,16 @@
 // Cuts a text into tokens that borrow it, the longest first.
-ghost use Rattle.std.specs.Prelude.{◌≡◌, ◌+◌, ◌<◌, ◌≤◌, length, drop, IfSome, OnSome, slice_index};
+ghost use Rattle.std.specs.Prelude.{◌≡◌, ℕ, ◌-◌, ◌<◌, ◌≤◌, length, IfSome, slice_index};
+ghost use Rattle.std.specs.Char.{is_ascii_digit};
 ghost use Rattle.std.specs.List.{prefix_len};
+ghost use Rattle.grammar.specs.Spelling.{word_part};
 ghost use Rattle.grammar.specs.Marks.{mark_of_bytes, mark_of_byte};
-ghost use Rattle.rule.specs.Scanning.{member, tagged, longest_mark, scanned, told, Moves};
+ghost use Rattle.rule.specs.Scanning.{is_space, tagged, longest_mark, front, lexed, told, scanned};
+ghost use Rattle.std.specs.Iterator.{at_most};
 
 use grammar::{Refusal, Relation, Sign, Tag};
 
-// Kinds of bytes that stand in runs.
-#[derive(Clone, Copy)]
-pub(crate) enum Class {
-    Space,
-    Digit,
-    WordPart,
-}
-
 // A token as a part of the text.
-#[derive(Clone, Copy)]
+#[derive(Clone, Copy, Debug, PartialEq, Eq)]
 pub(crate) enum Token<'a> {
     Word(&'a [u8]),
     Number(&'a [u8]),
@@ -27,34 +22,41 @@ pub(crate) enum Token<'a> {
 pub(crate) struct Cutter<'a> {
     text: &'a [u8],
     at: usize,
+    ghost within: { at ≤ length text.now },
 }
 
-fn belongs(class: Class, b: u8) -> bool
-    ensures { result ≡ member class b }
+// A byte that may stand in a word after its first letter.
+fn is_word_part(b: u8) -> bool
+    ensures { result ≡ word_part b }
 {
-    match class {
-        Class::Space => b == b' ',
-        Class::Digit => b.is_ascii_digit(),
-        Class::WordPart => b.is_ascii_alphabetic() || b.is_ascii_digit(),
-    }
+    b.is_ascii_alphanumeric()
 }
 
-// Where the run of a class that begins at `from` ends.
-pub(crate) fn run_end(text: &[u8], from: usize, class: Class) -> usize
-    requires { from ≤ length text.now }
-    ensures run { result ≡ from + prefix_len (member class) (drop from text.now) }
-    ensures within { result ≤ length text.now }
+// How many spaces stand at the front. This and the two functions below are not one with the class as a parameter: its contract, over what
+// any closure answers, would be longer than the three lines that it is for.
+fn spaces(bytes: &[u8]) -> usize
+    ensures value { result ≡ prefix_len is_space bytes.now }
+    ensures within { result ≤ length bytes.now }
 {
-    let mut end = from;
-    while end < text.len() && belongs(class, text[end]) {
-        end += 1;
-    }
-    end
+    bytes.iter().take_while(|b| **b == b' ').count()
+}
+
+fn word_len(bytes: &[u8]) -> usize
+    ensures value { result ≡ prefix_len word_part bytes.now }
+    ensures within { result ≤ length bytes.now }
+{
+    bytes.iter().take_while(|b| is_word_part(**b)).count()
+}
+
+pub(crate) fn digits_len(bytes: &[u8]) -> usize
+    ensures value { result ≡ prefix_len is_ascii_digit bytes.now }
+    ensures within { result ≤ length bytes.now }
+{
+    bytes.iter().take_while(|b| b.is_ascii_digit()).count()
 }
 
 fn two_byte_mark(a: u8, b: u8) -> Option<Tag>
-    ensures value { result ≡ tagged (mark_of_bytes a b) }
-    ensures some { OnSome result (0 < b) }
+    ensures { result ≡ tagged (mark_of_bytes a b) }
 {
     match (a, b) {
         (b'<', b'>') => Some(Tag::Relational(Relation::NotEqual)),
@@ -87,25 +89,34 @@ fn one_byte_mark(a: u8) -> Option<Tag>
     }
 }
 
-// The longest mark at the front of two bytes, and its length.
-fn longest(a: u8, b: u8) -> Option<(Tag, usize)>
-    ensures value { result ≡ longest_mark a b }
-    ensures some { IfSome result (λ x. (0 < x.1) × (x.1 ≤ 2) × (b ≡ 0 → x.1 ≡ 1)) }
+// The longest mark at the front, and its length.
+fn longest(bytes: &[u8]) -> Option<(Tag, usize)>
+    ensures value { result ≡ longest_mark (slice_index bytes.now 0) (slice_index bytes.now 1) }
+    ensures some { IfSome result (λ x. (0 < x.1) × (x.1 ≤ length bytes.now)) }
 {
-    if let Some(tag) = two_byte_mark(a, b) {
-        return Some((tag, 2));
-    }
-    match one_byte_mark(a) {
-        Some(tag) => Some((tag, 1)),
-        None => None,
-    }
+    let (first, rest) = bytes.split_first()?;
+    rest.first()
+        .and_then(|second| two_byte_mark(*first, *second))
+        .map(|tag| (tag, 2))
+        .or_else(|| one_byte_mark(*first).map(|tag| (tag, 1)))
 }
 
-fn byte_or_zero(text: &[u8], i: usize) -> u8
-    ensures value { result ≡ slice_index text.now i }
-    ensures past { length text.now ≤ i → result ≡ 0 }
+// The token at the front, and its length; none where no token begins so.
+fn lexeme(bytes: &[u8]) -> Option<(Token<'_>, usize)>
+    requires { 0 < length bytes.now }
+    ensures value { (place : ℕ) → lexed place result ≡ front place bytes.now }
+    ensures some { IfSome result (λ x. (0 < x.1) × (x.1 ≤ length bytes.now)) }
 {
-    if i < text.len() { text[i] } else { 0 }
+    let first = bytes[0];
+    if first.is_ascii_alphabetic() {
+        let n = word_len(bytes);
+        return Some((Token::Word(&bytes[..n]), n));
+    }
+    if first.is_ascii_digit() {
+        let n = digits_len(bytes);
+        return Some((Token::Number(&bytes[..n]), n));
+    }
+    longest(bytes).map(|(tag, n)| (Token::Mark(tag), n))
 }
 
 impl<'a> Cutter<'a> {
@@ -115,38 +126,32 @@ impl<'a> Cutter<'a> {
     {
         Cutter { text, at: 0 }
     }
+}
 
-    // The next token and its place; none at the end.
-    pub(crate) fn next(&mut self) -> Result<Option<(Token<'a>, usize)>, Refusal>
-        requires { self.old.at ≤ length self.old.text.now }
-        ensures value { told result self.new.at ≡ scanned self.old.text.now self.old.at }
-        ensures same { self.new.text.now ≡ self.old.text.now }
-        ensures moves { Moves result self.old.at self.new.at }
-        ensures ready { self.new.at ≤ length self.new.text.now }
-    {
+// The tokens and their places, up to the first bytes that are none.
+impl<'a> Iterator for Cutter<'a> {
+    type Item = Result<(Token<'a>, usize), Refusal>;
+
+    ghost next_gives = { λ s r t. (told r t.at ≡ scanned s.text.now s.at) × (t.text.now ≡ s.text.now) };
+
+    ghost remaining = { λ s. at_most (length s.text.now - s.at) };
+
+    fn next(&mut self) -> Option<Result<(Token<'a>, usize), Refusal>> {
         let text = self.text;
-        let place = run_end(text, self.at, Class::Space);
-        if place >= text.len() {
+        let place = self.at + spaces(&text[self.at..]);
+        if place == text.len() {
             self.at = place;
-            return Ok(None);
+            return None;
         }
-        let first = text[place];
-        if first.is_ascii_alphabetic() {
-            let end = run_end(text, place, Class::WordPart);
-            self.at = end;
-            return Ok(Some((Token::Word(&text[place..end]), place)));
-        }
-        if first.is_ascii_digit() {
-            let end = run_end(text, place, Class::Digit);
-            self.at = end;
-            return Ok(Some((Token::Number(&text[place..end]), place)));
-        }
-        match longest(first, byte_or_zero(text, place + 1)) {
-            Some((tag, n)) => {
+        match lexeme(&text[place..]) {
+            Some((token, n)) => {
                 self.at = place + n;
-                Ok(Some((Token::Mark(tag), place)))
+                Some(Ok((token, place)))
             }
-            None => Err(Refusal::NotAToken(place)),
+            None => {
+                self.at = text.len();
+                Some(Err(Refusal::NotAToken(place)))
+            }
         }
     }
 }

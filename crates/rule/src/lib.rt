@@ -3,6 +3,7 @@
 #![tactic(auto)]
 
 mod cutter;
+mod entry;
 mod limits;
 mod node;
 mod reader;

@@ -2,9 +2,10 @@
 use grammar::{Name, Relation, Sign, Term};
 
 // A part of a node is the number of another node, below its own.
-#[derive(Clone, Copy)]
+#[derive(Clone, Copy, Debug, Default, PartialEq, Eq)]
 pub enum Node {
     // patterns
+    #[default]
     Empty,
     Claim(u16),
     Alternative(u16, u16),

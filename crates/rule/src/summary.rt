@@ -4,7 +4,7 @@ ghost use Rattle.rule.specs.Summaries.{summary_of_empty, summary_of_claim, summa
 
 // `nullable`: it fits the empty list of rows. `claims`: how many claims it has. `last`: those of its claims that can be the last to
 // take a row when it fits, bit k for the claim k, counted from 0 from left to right.
-#[derive(Clone, Copy)]
+#[derive(Clone, Copy, Debug, PartialEq, Eq)]
 pub struct Summary {
     pub nullable: bool,
     pub claims: u8,
@@ -17,16 +17,6 @@ impl Summary {
         ensures { result ≡ after others self.last }
     {
         if others < 64 { self.last << others } else { 0 }
-    }
-
-    pub(crate) fn of_empty() -> Summary
-        ensures { result ≡ summary_of_empty }
-    {
-        Summary {
-            nullable: true,
-            claims: 0,
-            last: 0,
-        }
     }
 
     pub(crate) fn of_claim() -> Summary
@@ -71,6 +61,19 @@ impl Summary {
             nullable: true,
             claims: self.claims,
             last: self.last,
+        }
+    }
+}
+
+// The summary of the empty pattern.
+impl Default for Summary {
+    ghost is_default = { λ s. s ≡ summary_of_empty };
+
+    fn default() -> Summary {
+        Summary {
+            nullable: true,
+            claims: 0,
+            last: 0,
         }
     }
 }

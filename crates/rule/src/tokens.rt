@@ -1,9 +1,9 @@
 // The tokens of a text, in a table of fixed size. It has room for one more than a rule may have, so that the place of the first
 // token too many is known.
-ghost use Rattle.std.specs.Prelude.{◌≡◌, ◌≤◌, true, length, take};
-ghost use Rattle.rule.specs.Spots.{all_real};
+ghost use Rattle.std.specs.Prelude.{◌≤◌, length};
 
 use crate::spot::Spot;
+use arrayvec::ArrayVec;
 
 mod cutting;
 mod stored;
@@ -11,9 +11,6 @@ mod stored;
 #[derive(Drop)]
 pub(crate) struct Tokens<'a> {
     text: &'a [u8],
-    spots: [Spot; 501],
-    len: usize,
-    ghost room: { length spots ≡ 501 },
-    ghost few: { len ≤ 501 },
-    ghost real: { all_real (take len spots) ≡ true },
+    spots: ArrayVec<Spot, 501>,
+    ghost few: { length spots.items ≤ 501 },
 }

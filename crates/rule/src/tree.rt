@@ -1,89 +1,83 @@
 // Numbered nodes, each after its parts, with the summaries of their patterns.
-ghost use Rattle.std.specs.Prelude.{◌≡◌, ◌<◌, ◌≤◌, true, [], ◌∷◌, ◌++◌, length, take};
+ghost use Rattle.std.specs.Prelude.{◌≡◌, ◌<◌, ◌≤◌, true, [], ◌∷◌, ◌++◌, length};
 ghost use Rattle.rule.specs.Order.{ordered, PartsBelow};
-ghost use Rattle.rule.specs.Trees.{made, things, thing, summaries_of, summary_with, node_at, summary_at};
+ghost use Rattle.rule.specs.Trees.{made, things, thing, summaries_of, summary_with, node_at, summary_at, nodes_in, summaries_in};
 
+use crate::entry::Entry;
 use crate::node::Node;
 use crate::summary::Summary;
+use arrayvec::ArrayVec;
 
 #[derive(Drop)]
 pub(crate) struct Tree {
-    nodes: [Node; 500],
-    summaries: [Summary; 500],
-    len: usize,
-    ghost room: { length nodes ≡ 500 },
-    ghost spare: { length summaries ≡ 500 },
-    ghost few: { len ≤ 500 },
-    ghost down: { ordered 0 (take len nodes) ≡ true },
-    ghost summed: { take len summaries ≡ summaries_of (take len nodes) },
+    entries: ArrayVec<Entry, 500>,
+    ghost few: { length entries.items ≤ 500 },
+    ghost down: { ordered 0 (nodes_in entries.items) ≡ true },
+    ghost summed: { summaries_in entries.items ≡ summaries_of (nodes_in entries.items) },
 }
 
 impl Tree {
+    ghost use Rattle.rule.specs.Built.{nodes_of};
+
     // A tree with no nodes.
     pub(crate) fn new() -> Tree
-        ensures { result.len ≡ 0 }
+        ensures { nodes_of result ≡ [] }
     {
         Tree {
-            nodes: [Node::Empty; 500],
-            summaries: [Summary::of_empty(); 500],
-            len: 0,
+            entries: ArrayVec::new(),
         }
+    }
+
+    // The entry n, or that of an empty pattern where there is none.
+    fn entry(&self, n: u16) -> Entry
+        ensures node { result.node ≡ node_at (nodes_of self.now) n }
+        ensures summary { result.summary ≡ summary_at (nodes_of self.now) n }
+    {
+        self.entries
+            .get(usize::from(n))
+            .copied()
+            .unwrap_or_default()
+    }
+
+    // The node n, or an empty pattern where there is none.
+    pub(crate) fn node(&self, n: u16) -> Node
+        ensures value { result ≡ node_at (nodes_of self.now) n }
+        ensures meaning { thing (nodes_of self.now) n ≡ made (things [] (nodes_of self.now)) result }
+        ensures below { PartsBelow n result }
+    {
+        self.entry(n).node
+    }
+
+    // The summary of the pattern at the node n.
+    pub(crate) fn summary(&self, n: u16) -> Summary
+        ensures { result ≡ summary_at (nodes_of self.now) n }
+    {
+        self.entry(n).summary
     }
 
     // The summary of a node that is put after these.
     fn summarize(&self, node: Node) -> Summary
-        requires { PartsBelow (length (take self.now.len self.now.nodes)) node }
-        ensures { result ≡ summary_with (take self.now.len self.now.nodes) node }
+        ensures { result ≡ summary_with (nodes_of self.now) node }
     {
         match node {
             Node::Claim(_) => Summary::of_claim(),
-            Node::Alternative(a, b) => {
-                self.summaries[a as usize].alternative(self.summaries[b as usize])
-            }
-            Node::Sequence(a, b) => {
-                self.summaries[a as usize].sequence(self.summaries[b as usize])
-            }
-            Node::Star(a) => self.summaries[a as usize].star(),
-            _ => Summary::of_empty(),
+            Node::Alternative(a, b) => self.summary(a).alternative(self.summary(b)),
+            Node::Sequence(a, b) => self.summary(a).sequence(self.summary(b)),
+            Node::Star(a) => self.summary(a).star(),
+            _ => Summary::default(),
         }
     }
 
     // One node more, whose parts are there.
     pub(crate) fn add(&mut self, node: Node) -> u16
-        requires room { length (take self.old.len self.old.nodes) < 500 }
-        requires parts { PartsBelow (length (take self.old.len self.old.nodes)) node }
-        ensures place { result ≡ length (take self.old.len self.old.nodes) }
-        ensures more { take self.new.len self.new.nodes ≡ take self.old.len self.old.nodes ++ node ∷ [] }
+        requires room { length (nodes_of self.old) < 500 }
+        requires parts { PartsBelow (length (nodes_of self.old)) node }
+        ensures place { result ≡ length (nodes_of self.old) }
+        ensures more { nodes_of self.new ≡ nodes_of self.old ++ node ∷ [] }
     {
+        let n = self.entries.len();
         let summary = self.summarize(node);
-        let n = self.len;
-        self.nodes[n] = node;
-        self.summaries[n] = summary;
-        self.len = n + 1;
+        self.entries.push(Entry { node, summary });
         n as u16
-    }
-
-    // The node n, or an empty pattern where there is none.
-    pub(crate) fn node(&self, n: u16) -> Node
-        ensures value { result ≡ node_at (take self.now.len self.now.nodes) n }
-        ensures meaning { thing (take self.now.len self.now.nodes) n ≡ made (things [] (take self.now.len self.now.nodes)) result }
-        ensures below { PartsBelow n result }
-    {
-        if (n as usize) < self.len {
-            self.nodes[n as usize]
-        } else {
-            Node::Empty
-        }
-    }
-
-    // The summary of the pattern at the node n.
-    pub(crate) fn summary(&self, n: u16) -> Summary
-        ensures { result ≡ summary_at (take self.now.len self.now.nodes) n }
-    {
-        if (n as usize) < self.len {
-            self.summaries[n as usize]
-        } else {
-            Summary::of_empty()
-        }
     }
 }

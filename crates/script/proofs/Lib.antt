@@ -1,4 +1,2 @@
-pub mod Writing
-pub mod Cutting
 pub mod Reading
-pub mod Patterns
+pub mod Writing

@@ -1,7 +1,8 @@
 -- Text written into memory, piece by piece.
 use Rattle.std.proofs.Common.{◌≡◌, ℕ, zero, suc, ◌+◌, ◌<◌, ◌≤◌, min, max, List, [], ◌∷◌, ◌++◌, length, set, sym, refl, ap, ◌∙◌, subst, append_assoc, append-nil, arith, length-append}
 use Rattle.std.proofs.lemmas.List.{set_past}
-use Rattle.script.specs.Output.{overlay, written, Wrote}
+use Rattle.script.specs.declared.output.Output.{Output}
+use Rattle.script.specs.Output.{overlay, written, Wrote, Appended}
 
 length_overlay : (bs text : List ℕ) → length (overlay bs text) ≡ length bs
 length_overlay bs [] = refl
@@ -40,48 +41,50 @@ wrote_byte bs at byte within = record { memory = byte_set bs at byte; place = om
 pub wrote_past : (bs : List ℕ) (at byte : ℕ) → length bs ≤ at → Wrote bs at (byte ∷ []) bs at
 wrote_past bs at byte past = record { memory = sym (set_past bs at byte past) ∙ byte_set bs at byte; place = omega arith }
 
-pub wrote_same : {bs s t cs : List ℕ} {at next : ℕ} → s ≡ t → Wrote bs at s cs next → Wrote bs at t cs next
-wrote_same {bs} {s} {t} {cs} {at} {next} e = subst (λ text. Wrote bs at text cs next) e
+-- no text, one text after another, and equal texts
+pub appended_nothing : {o : Output} → Appended o [] o
+appended_nothing {o} = record { wrote = record { memory = sym (nothing o.memory.now o.place); place = omega arith }; same_reference = refl } where
+  nothing : (cs : List ℕ) (k : ℕ) → written cs k [] ≡ cs
+  nothing cs zero = refl
+  nothing [] (suc k) = refl
+  nothing (c ∷ cs) (suc k) = ap (λ ds. c ∷ ds) (nothing cs k)
 
-module _ {bs : List ℕ} {at : ℕ} where
-  pub wrote_nothing : Wrote bs at [] bs at
-  wrote_nothing = record { memory = sym (nothing bs at); place = omega arith } where
-    nothing : (cs : List ℕ) (k : ℕ) → written cs k [] ≡ cs
-    nothing cs zero = refl
-    nothing [] (suc k) = refl
-    nothing (c ∷ cs) (suc k) = ap (λ ds. c ∷ ds) (nothing cs k)
-
-  pub wrote_then : {s t cs ds : List ℕ} {next end : ℕ} → Wrote bs at s cs next → Wrote cs next t ds end → Wrote bs at (s ++ t) ds end
-  wrote_then {s} {t} {cs} {ds} {next} {end} first second = record {
-    memory = second.memory ∙ ap (λ ms. written ms next t) first.memory ∙ twice bs at next s t first.place;
+pub appended_then : {o p q : Output} {s t : List ℕ} → Appended o s p → Appended p t q → Appended o (s ++ t) q
+appended_then {o} {p} {q} {s} {t} first second = record {
+  wrote = record {
+    memory = second.wrote.memory ∙ ap (λ ms. written ms p.place t) first.wrote.memory ∙ twice o.memory.now o.place p.place s t first.wrote.place;
     place =
-        let long : length cs ≡ length bs = ap length first.memory ∙ length_written bs at s in
+        let long : length p.memory.now ≡ length o.memory.now = ap length first.wrote.memory ∙ length_written o.memory.now o.place s in
         let sum = length-append s t in
-        let p = first.place in
-        let q = second.place in
+        let h = first.wrote.place in
+        let k = second.wrote.place in
         omega arith;
-  }
+  };
+  same_reference = second.same_reference ∙ first.same_reference;
+}
+
+pub appended_same : {o p : Output} {s t : List ℕ} → s ≡ t → Appended o s p → Appended o t p
+appended_same {o} {p} e = subst (λ text. Appended o text p) e
 
 -- a text that was written from the beginning on
 pub wrote_whole : {bs text after : List ℕ} {next : ℕ} → Wrote bs 0 text after next → (after ≡ overlay bs text) × (next ≡ min (length bs) (length text))
 wrote_whole wrote = (wrote.memory, let h = wrote.place in omega arith)
 
 -- For loops: the text `all` is being written, and `rest` of it remains.
-pub record Remains (bs : List ℕ) (at : ℕ) (all after : List ℕ) (next : ℕ) (rest : List ℕ) : Type 0 where
+pub record Remains (old : Output) (all : List ℕ) (new : Output) (rest : List ℕ) : Type 0 where
   pub done : List ℕ
-  pub wrote : Wrote bs at done after next
+  pub appended : Appended old done new
   pub whole : done ++ rest ≡ all
 
-module _ {bs : List ℕ} {at : ℕ} {all : List ℕ} where
-  pub remains_all : Remains bs at all bs at all
-  remains_all = record { done = []; wrote = wrote_nothing; whole = refl }
+pub remains_all : {o : Output} {all : List ℕ} → Remains o all o all
+remains_all = record { done = []; appended = appended_nothing; whole = refl }
 
-  pub remains_less : {cs ds rest s later : List ℕ} {next end : ℕ} → rest ≡ s ++ later → Remains bs at all cs next rest → Wrote cs next s ds end → Remains bs at all ds end later
-  remains_less {s = s} {later = later} e r piece = record {
-    done = r.done ++ s;
-    wrote = wrote_then r.wrote piece;
-    whole = append_assoc r.done s later ∙ ap (λ t. r.done ++ t) (sym e) ∙ r.whole;
-  }
+pub remains_less : {o p q : Output} {all rest s later : List ℕ} → rest ≡ s ++ later → Remains o all p rest → Appended p s q → Remains o all q later
+remains_less {s = s} {later = later} e r piece = record {
+  done = r.done ++ s;
+  appended = appended_then r.appended piece;
+  whole = append_assoc r.done s later ∙ ap (λ t. r.done ++ t) (sym e) ∙ r.whole;
+}
 
-  pub remains_none : {cs rest : List ℕ} {next : ℕ} → rest ≡ [] → Remains bs at all cs next rest → Wrote bs at all cs next
-  remains_none e r = wrote_same (sym (append-nil r.done) ∙ ap (λ t. r.done ++ t) (sym e) ∙ r.whole) r.wrote
+pub remains_none : {o p : Output} {all rest : List ℕ} → rest ≡ [] → Remains o all p rest → Appended o all p
+remains_none e r = appended_same (sym (append-nil r.done) ∙ ap (λ t. r.done ++ t) (sym e) ∙ r.whole) r.appended

@@ -1,4 +1,3 @@
-pub mod Lines
 pub mod Orders
 pub mod Output
 pub mod Text

@@ -1,16 +1,10 @@
 -- What is written of an answer.
 use Rattle.std.specs.Prelude.{ℕ, cond, List, [], ◌∷◌, ◌++◌, Some, None, codes, decimal, Option, ◌==◌}
 use Rattle.std.specs.List.{flat_map}
-use Rattle.std.specs.Fmt.{signed_decimal}
-use Rattle.engine.specs.declared.Value.{Value}
-use Rattle.engine.specs.declared.Value.TheVariants.{Missing, Number}
 use Rattle.engine.specs.declared.answers.Fault.{Fault}
+use Rattle.engine.specs.Values.{Value}
+use Rattle.engine.specs.Texts.{value_text}
 use Rattle.engine.specs.Messages.{Message}
-
--- `-` for a value that is missing
-abbrev pub value_text : Value → List ℕ
-value_text Missing = codes "-"
-value_text (Number z) = signed_decimal z
 
 abbrev pub shown_text : Option Value → List ℕ
 shown_text None = codes "-"

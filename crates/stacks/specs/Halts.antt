@@ -1,7 +1,6 @@
 -- The book of an engine that counts orders and halts when the count comes to a limit.
 use Rattle.std.specs.Prelude.{◌≡◌, ℕ, ◌+◌, Bool, true, false, cond, List, [], ◌∷◌, ◌++◌, pos, Some, None, ◌≢◌, nat_le, refl}
 use Rattle.std.proofs.Common.{ap, ◌∙◌, arith}
-use Rattle.engine.specs.declared.Value.TheVariants.{Missing}
 use Rattle.engine.specs.declared.Values.{Values}
 use Rattle.engine.specs.declared.orders.Order.{Order}
 use Rattle.engine.specs.declared.answers.Fault.{Fault}
@@ -13,7 +12,7 @@ use Rattle.stacks.specs.declared.halting.Halting.{Halting}
 
 -- a live page shows the count in its first column
 abbrev counting : ℕ → Values
-counting count = record { c1 = value_of (pos count); c2 = Missing; c3 = Missing; c4 = Missing; c5 = Missing; c6 = Missing }
+counting count = record { c1 = value_of (pos count); c2 = None; c3 = None; c4 = None; c5 = None; c6 = None }
 
 -- the page at a count; no order is refused
 abbrev pub page : Fault → Bool → ℕ → Page

@@ -1,9 +1,9 @@
 // An engine that halts by itself.
 ghost use Rattle.std.specs.Prelude.{◌≡◌, []};
-ghost use Rattle.engine.specs.Books.{after, answer, reading};
+ghost use Rattle.engine.specs.Books.{reading};
 ghost use Rattle.stacks.specs.Halts.{halting_book, halting_lawful};
 
-use engine::{Answer, Engine, Fault, Order, Shown, Value, Values};
+use engine::{Answer, Engine, Fault, Order, Shown, Values, value};
 
 // It takes every order and counts them, shows the count in column 1, and halts with a fault when the count comes to a limit.
 #[derive(Clone, Copy)]
@@ -31,28 +31,9 @@ impl Halting {
             return Err(self.fault);
         }
         Ok(Values {
-            c1: Value::of(self.count as i32),
-            c2: Value::Missing,
-            c3: Value::Missing,
-            c4: Value::Missing,
-            c5: Value::Missing,
-            c6: Value::Missing,
+            c1: value(i32::from(self.count)),
+            ..Values::default()
         })
-    }
-
-    // Counts an order.
-    fn step(&mut self, order: Order) -> Answer
-        ensures told { result ≡ answer (halting_book self.old) order }
-        ensures moved { halting_book self.new ≡ after (halting_book self.old) order }
-    {
-        if self.limit <= self.count {
-            return Answer::Halted(self.fault);
-        }
-        self.count += 1;
-        if self.limit <= self.count {
-            return Answer::Halted(self.fault);
-        }
-        Answer::Taken
     }
 }
 
@@ -61,29 +42,19 @@ impl Engine for Halting {
 
     ghost lawful = { halting_lawful };
 
-    fn open(&mut self, argument: i32) -> Answer {
-        self.step(Order::Open(argument))
-    }
-
-    fn turn(&mut self) -> Answer {
-        self.step(Order::Turn)
-    }
-
-    fn skip(&mut self, argument: i32) -> Answer {
-        self.step(Order::Skip(argument))
+    fn give(&mut self, _order: Order) -> Answer {
+        self.values()?;
+        self.count += 1;
+        self.values()?;
+        Ok(())
     }
 
     fn show(&self, column: i32) -> Shown {
-        match self.values() {
-            Ok(values) => values.show(column),
-            Err(fault) => Shown::Halted(fault),
-        }
+        self.values()?.show(column)
     }
 
     fn would(&self, _order: Order) -> Answer {
-        match self.values() {
-            Ok(_) => Answer::Taken,
-            Err(fault) => Answer::Halted(fault),
-        }
+        self.values()?;
+        Ok(())
     }
 }

@@ -10,14 +10,13 @@ mod shown;
 use calendar::Reckoned;
 use columns::Columns;
 use engine::{Engine, Reply};
-use grammar::Refusal;
 use input::{Case, Ground, Setting};
 use piles::{Run, send_to_piles};
 use shown::Replies;
 use std::io;
 use std::io::Read;
 
-// More bytes of input than this are not looked at.
+// More bytes of input than this are not looked at. A crate for the lines that three programs read it with would be no plainer.
 const LIMIT: u64 = 1_000_000;
 
 fn main(rt: HostRuntime) -> io::Result<()> {
@@ -64,11 +63,7 @@ fn answer_file(
 ) -> io::Result<()> {
     match (Columns::new(words), Columns::new(words)) {
         (Ok(engine), Ok(twin)) => answer_over(rt, engine, twin, settings, run),
-        (Err(refusal), _) | (_, Err(refusal)) => {
-            let number = refusal.number();
-            let place = refusal.place();
-            println!(rt; "file refused {number} at {place}")
-        }
+        (Err(refusal), _) | (_, Err(refusal)) => println!(rt; "file refused {refusal}"),
     }
 }
 
@@ -82,7 +77,7 @@ fn answer_over<E: Engine + Drop>(
 ) -> io::Result<()> {
     match send_to_piles(engine, twin, settings, &mut run) {
         Ok(()) => print_replies(rt, run.replies.as_slice(), run.others.as_slice()),
-        Err(refusal) => print_refusal(rt, refusal),
+        Err(refusal) => println!(rt; "rule refused {refusal}"),
     }
 }
 
@@ -91,10 +86,4 @@ fn print_replies(rt: &HostRuntime, replies: &[Reply], others: &[Reply]) -> io::R
     let twin = Replies { replies: others };
     println!(rt; "pile{pile}")?;
     println!(rt; "twin{twin}")
-}
-
-fn print_refusal(rt: &HostRuntime, refusal: Refusal) -> io::Result<()> {
-    let number = refusal.number();
-    let place = refusal.place();
-    println!(rt; "rule refused {number} at {place}")
 }

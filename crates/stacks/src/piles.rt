@@ -1,6 +1,6 @@
 // Piles of up to three watches, in both stackings.
 use crate::input::Setting;
-use engine::{Answer, Call, Engine, Reply};
+use engine::{Call, Engine, Reply};
 use grammar::Refusal;
 use rule::Rule;
 use std::alloc::{AllocError, Global};
@@ -17,7 +17,7 @@ pub(crate) struct Run {
 impl Run {
     // The calls, with room for their replies.
     pub(crate) fn new(heap: Global, calls: Vec<Call>) -> Result<Run, AllocError> {
-        let blank = Reply::ToGive(Answer::Taken);
+        let blank = Reply::ToGive(Ok(()));
         let replies = vec![in heap; blank; calls.len()]?;
         let others = vec![in heap; blank; calls.len()]?;
         Ok(Run {
@@ -43,6 +43,8 @@ fn watched<E: Engine + Drop>(setting: Setting<'_>, engine: E) -> Result<Watch<E>
     Ok(Watch::new(rule, engine))
 }
 
+// Piles of one, two and three watches are different types, so there is a function for each: one that sets watch after watch would
+// call itself at ever new types.
 fn send_to_one<E: Engine + Drop>(
     engine: E,
     twin: E,

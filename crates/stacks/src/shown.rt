@@ -1,5 +1,5 @@
 // How replies are shown.
-use engine::{Fault, Reply, Value};
+use engine::{Cell, Fault, Reply};
 use std::fmt;
 
 // A reply as its number, and after it the value, as `0=5` or `0=-`, or the fault's watch, row and rise, as `20(7,3,0)`.
@@ -12,8 +12,10 @@ impl fmt::Display for Message {
     fn fmt<W: fmt::Write>(&self, f: &mut fmt::Formatter<W>) -> fmt::Result {
         let number = self.reply.number();
         match (self.reply.value(), self.reply.fault()) {
-            (Some(Value::Number(value)), _) => write!(f, "{number}={value}"),
-            (Some(Value::Missing), _) => write!(f, "{number}=-"),
+            (Some(value), _) => {
+                let cell = Cell(value);
+                write!(f, "{number}={cell}")
+            }
             (None, Some(Fault { watch, row, rise })) => write!(f, "{number}({watch},{row},{rise})"),
             (None, None) => write!(f, "{number}"),
         }

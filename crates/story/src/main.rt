@@ -2,7 +2,7 @@
 #![tactic(auto)]
 
 use columns::Columns;
-use engine::{Call, Engine, Fault, Order, Reply, Shown, Value};
+use engine::{Call, Cell, Engine, Fault, Order, Reply};
 use rule::Rule;
 use std::{fmt, io};
 use watch::{Watch, run};
@@ -17,14 +17,13 @@ const MENDED: [i32; 27] = [
     5, 5, 7, 12, 17, 12, 22, 1, 31, 60, 90, 119, 1, 1, 1, 1, 1, 1, 2, 3, 4, 5, 30, 29, 30, 29, 30,
 ];
 
-const STORY: [&str; 6] = [
-    "A table with the first days of five months comes as a file: a list of words with one column",
-    "after another. An engine shows it row by row, and two watches stand over the engine, one above",
-    "the other. The inner one wants 30 days in odd months, the outer one wants the newest day to be",
-    "later than all days seen after row 0. The pile is turned four times. It halts at the first row",
-    "at which a rule fails, names the watch and the row, and stays so; it never shows that row. In",
-    "the file as it came month 3 has 29 days and should have 30.",
-];
+const STORY: &str = "\
+A table with the first days of five months comes as a file: a list of words with one column
+after another. An engine shows it row by row, and two watches stand over the engine, one above
+the other. The inner one wants 30 days in odd months, the outer one wants the newest day to be
+later than all days seen after row 0. The pile is turned four times. It halts at the first row
+at which a rule fails, names the watch and the row, and stays so; it never shows that row. In
+the file as it came month 3 has 29 days and should have 30.";
 
 const INNER: &str = "[(c3 = 1 or c3 = 3 or c3 = 5 or c3 = 7 or c3 = 9 or c3 = 11) => c5 = 30]";
 
@@ -33,27 +32,8 @@ const OUTER: &str = "[op = 0] | [true].[c1 < c1']*.[op = 0]";
 // What the story shows of a page: its day, its month and the days in that month, or the fault.
 const CALLS: [Call; 3] = [Call::Show(1), Call::Show(3), Call::Show(5)];
 
-// A value of a row, or `-` where it is missing.
-#[derive(Clone, Copy)]
-struct Cell {
-    value: Value,
-}
-
-impl fmt::Display for Cell {
-    fn fmt<W: fmt::Write>(&self, f: &mut fmt::Formatter<W>) -> fmt::Result {
-        match self.value {
-            Value::Missing => f.write_str("-"),
-            Value::Number(number) => write!(f, "{number}"),
-        }
-    }
-}
-
 fn value_in(reply: Reply) -> Cell {
-    let value = match reply {
-        Reply::ToShow(Shown::Value(value)) => value,
-        _ => Value::Missing,
-    };
-    Cell { value }
+    Cell(reply.value().flatten())
 }
 
 fn print_halt(rt: &impl Print, fault: Fault) -> io::Result<()> {
@@ -65,7 +45,7 @@ fn print_halt(rt: &impl Print, fault: Fault) -> io::Result<()> {
 
 // Prints where the pile stands.
 fn print_page<P: Engine>(rt: &impl Print, pile: &mut P, row: usize) -> io::Result<()> {
-    let mut said = [Reply::ToShow(Shown::NoColumn); 3];
+    let mut said = [Reply::ToGive(Ok(())); 3];
     run(pile, &CALLS, &mut said);
     if let Some(fault) = said[0].fault() {
         return print_halt(rt, fault);
@@ -80,7 +60,7 @@ fn print_page<P: Engine>(rt: &impl Print, pile: &mut P, row: usize) -> io::Resul
 fn print_turns<P: Engine>(rt: &impl Print, pile: &mut P) -> io::Result<()> {
     print_page(rt, pile, 0)?;
     for row in 1..5 {
-        let mut said = [Reply::ToShow(Shown::NoColumn); 1];
+        let mut said = [Reply::ToGive(Ok(())); 1];
         run(pile, &[Call::Give(Order::Turn)], &mut said);
         print_page(rt, pile, row)?;
     }
@@ -109,16 +89,9 @@ fn print_story(rt: &impl Print, words: &[i32]) -> io::Result<()> {
     }
 }
 
-fn print_lines(rt: &impl Print, lines: &[&str]) -> io::Result<()> {
-    for line in lines {
-        println!(rt; "{line}")?;
-    }
-    Ok(())
-}
-
 // The file as it came, and the file mended.
 fn main(rt: HostRuntime) -> io::Result<()> {
-    print_lines(&rt, &STORY)?;
+    println!(rt; "{STORY}")?;
     println!(rt; "  watch 11: {INNER}")?;
     println!(rt; "  watch 12: {OUTER}")?;
     println!(rt; "The file as it came:")?;

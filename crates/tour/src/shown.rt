@@ -1,5 +1,4 @@
 // How counts, refusals and places are shown.
-use engine::Value;
 use grammar::Refusal;
 use std::fmt;
 
@@ -50,20 +49,5 @@ impl fmt::Display for Caret {
     fn fmt<W: fmt::Write>(&self, f: &mut fmt::Formatter<W>) -> fmt::Result {
         f.write_repeated(" ", self.place)?;
         f.write_str("^")
-    }
-}
-
-// A value of a row, or `-` where it is missing.
-#[derive(Clone, Copy)]
-pub(crate) struct Cell {
-    pub value: Value,
-}
-
-impl fmt::Display for Cell {
-    fn fmt<W: fmt::Write>(&self, f: &mut fmt::Formatter<W>) -> fmt::Result {
-        match self.value {
-            Value::Missing => f.write_str("-"),
-            Value::Number(number) => write!(f, "{number}"),
-        }
     }
 }

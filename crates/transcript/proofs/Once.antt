@@ -1,5 +1,5 @@
 -- An input has one text.
-use Rattle.std.proofs.Common.{◌≡◌, ℕ, List, [], ◌∷◌, ℤ, refl, ap, ap₂, arith}
+use Rattle.std.proofs.Common.{◌≡◌, ℕ, List, [], ◌∷◌, ℤ, refl, ap, ◌∙◌, subst, ap₂, arith}
 use Rattle.grammar.specs.Numbers.{number_of, place_of}
 use Rattle.grammar.specs.Tree.{Pattern}
 use Rattle.grammar.specs.Cutting.{Placed}
@@ -7,7 +7,8 @@ use Rattle.grammar.specs.Reading.{Allowed}
 use Rattle.grammar.proofs.Unique.{one_tree, never_both, one_refusal}
 use Rattle.ledger.specs.Ledger.{carrying, ledger}
 use Rattle.calendar.specs.Calendar.{reckoned}
-use Rattle.script.specs.Output.{Wrote}
+use Rattle.script.specs.declared.output.Output.{Output}
+use Rattle.script.specs.Output.{Wrote, Appended}
 use Rattle.script.specs.Text.{rule_text}
 use Rattle.script.proofs.Writing.{wrote_whole}
 use Rattle.transcript.specs.Log.{log_text}
@@ -36,7 +37,9 @@ once input _ _ (logged h ts x a us y b) (logged k ts₂ x₂ a₂ us₂ y₂ b�
     ap₂ (λ p q. log_text (ledger (carrying 1 p ∷ carrying 2 q ∷ []) reckoned) (order_lines input))
     (same_tree _ _ (first_rule input) ts ts₂ x x₂ a a₂) (same_tree _ _ (second_rule input) us us₂ y y₂ b b₂)
 
-pub printed : {input old new text : List ℕ} {n : ℕ} → Transcribed input text → Wrote old 0 text new n → Printed input old new n
-printed {input} {text = text} t w =
-    let whole = wrote_whole w in
-    record { text = text; transcribed = t; only = λ other u. once input other text u t; memory = whole.0; count = whole.1 }
+-- the memory at the end, where a text for the input was written from its beginning on
+pub printed : {input after : List ℕ} {old new : Output} (text : List ℕ) → Transcribed input text → Appended old text new → old.place ≡ 0 → after ≡ new.memory.now → Printed input old.memory.now after new.place
+printed {input} {old = old} {new = new} text t appended start e =
+    let wrote : Wrote old.memory.now 0 text new.memory.now new.place = subst (λ at. Wrote old.memory.now at text new.memory.now new.place) start appended.wrote in
+    let whole = wrote_whole wrote in
+    record { text = text; transcribed = t; only = λ other u. once input other text u t; memory = e ∙ whole.0; count = whole.1 }

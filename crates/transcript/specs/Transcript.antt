@@ -7,7 +7,7 @@ use Rattle.grammar.specs.Cutting.{Placed}
 use Rattle.grammar.specs.Reading.{Allowed, Refused}
 use Rattle.ledger.specs.Ledger.{carrying, ledger}
 use Rattle.calendar.specs.Calendar.{reckoned}
-use Rattle.script.specs.Lines.{lines_of}
+use Rattle.fields.specs.Lines.{lines_of}
 use Rattle.script.specs.Output.{overlay}
 use Rattle.script.specs.Text.{rule_text, too_long_text}
 use Rattle.transcript.specs.Log.{log_text}

@@ -2,7 +2,6 @@
 #![tactic(auto)]
 
 mod log;
-mod sending;
 mod whole;
 
 pub use whole::{INPUT_LIMIT, transcribe};

@@ -1,10 +1,7 @@
 // The cases that the lines of the input hold.
-ghost use Rattle.std.specs.Prelude.{◌<◌, length};
-
 use engine::{Op, Row, Value, Values};
-use fields::find;
+use fields::{decimal, find};
 use std::alloc::AllocError;
-use std::str;
 
 // More rows than this are no case.
 const LIMIT: usize = 400;
@@ -19,18 +16,17 @@ pub(crate) struct Case<'a> {
 
 impl<'a> Case<'a> {
     pub(crate) fn of(line: &'a [u8]) -> Case<'a> {
-        let whole = line.starts_with(b"=");
-        let start = usize::from(whole);
-        let body = &line[start..];
+        let (whole, body) = match line.strip_prefix(b"=") {
+            Some(body) => (true, body),
+            None => (false, line),
+        };
         let (text, rows) = body.split_at(find(body, b';'));
         Case { text, whole, rows }
     }
 
     // Adds the rows of the case to those at hand. Tells whether they are all rows, and not too many.
     pub(crate) fn put_rows(&self, rows: &mut Vec<Row>) -> Result<bool, AllocError> {
-        let mut rest = self.rows;
-        while !rest.is_empty() {
-            let (part, after) = next_part(rest, b';');
+        for part in self.rows.split(|byte| *byte == b';').skip(1) {
             let Some(row) = row(part) else {
                 return Ok(false);
             };
@@ -38,7 +34,6 @@ impl<'a> Case<'a> {
                 return Ok(false);
             }
             rows.push(row)?;
-            rest = after;
         }
         Ok(true)
     }
@@ -46,21 +41,23 @@ impl<'a> Case<'a> {
 
 // A row: the number of its order and seven values, parted by single spaces.
 fn row(text: &[u8]) -> Option<Row> {
-    let (first, fields) = text.split_at(find(text, b' '));
-    let op = op(first)?;
-    let [arg, c1, c2, c3, c4, c5, c6] = values(fields)?;
-    Some(Row {
-        op,
-        arg,
+    let mut fields = text.split(|byte| *byte == b' ');
+    let row = Row {
+        op: op(fields.next()?)?,
+        arg: value(fields.next()?)?,
         values: Values {
-            c1,
-            c2,
-            c3,
-            c4,
-            c5,
-            c6,
+            c1: value(fields.next()?)?,
+            c2: value(fields.next()?)?,
+            c3: value(fields.next()?)?,
+            c4: value(fields.next()?)?,
+            c5: value(fields.next()?)?,
+            c6: value(fields.next()?)?,
         },
-    })
+    };
+    match fields.next() {
+        Some(_) => None,
+        None => Some(row),
+    }
 }
 
 fn op(field: &[u8]) -> Option<Op> {
@@ -73,42 +70,10 @@ fn op(field: &[u8]) -> Option<Op> {
     }
 }
 
-// Seven values, a space before each.
-fn values(fields: &[u8]) -> Option<[Value; 7]> {
-    let mut values = [Value::Missing; 7];
-    let mut rest = fields;
-    for one in values.iter_mut() {
-        if rest.is_empty() {
-            return None;
-        }
-        let (field, after) = next_part(rest, b' ');
-        *one = value(field)?;
-        rest = after;
-    }
-    if rest.is_empty() { Some(values) } else { None }
-}
-
 // A value: `-` where it is missing.
 fn value(field: &[u8]) -> Option<Value> {
     if field == b"-".as_slice() {
-        return Some(Value::Missing);
+        return Some(None);
     }
-    match Value::of(decimal(field)?) {
-        Value::Missing => None,
-        Value::Number(number) => Some(Value::Number(number)),
-    }
-}
-
-// A number in decimal, as `parse` takes it.
-fn decimal(number: &[u8]) -> Option<i32> {
-    str::from_utf8(number).ok()?.parse().ok()
-}
-
-// What stands between the first byte and the next that is wanted, and what is left from there on.
-fn next_part(bytes: &[u8], wanted: u8) -> (&[u8], &[u8])
-    requires { 0 < length bytes.now }
-    ensures { length result.1.now < length bytes.now }
-{
-    let body = &bytes[1..];
-    body.split_at(find(body, wanted))
+    engine::value(decimal(field)?).map(Some)
 }

@@ -6,7 +6,7 @@
 mod input;
 
 use engine::Row;
-use fields::first_line;
+use fields::Lines;
 use input::Case;
 use matching::passes;
 use rule::Rule;
@@ -14,7 +14,7 @@ use std::alloc::{AllocError, Global};
 use std::io;
 use std::io::Read;
 
-// More bytes of input than this are not looked at.
+// More bytes of input than this are not looked at. A crate for the lines that three programs read it with would be no plainer.
 const LIMIT: u64 = 1_000_000;
 
 fn main(rt: HostRuntime) -> io::Result<()> {
@@ -24,12 +24,10 @@ fn main(rt: HostRuntime) -> io::Result<()> {
 }
 
 // Answers the lines in turn, with one place for a rule.
-fn answer_all(rt: &HostRuntime, lines: &[u8]) -> io::Result<()> {
+fn answer_all(rt: &HostRuntime, input: &[u8]) -> io::Result<()> {
     let mut rule = Rule::new();
-    let mut rest = lines;
-    while let Some((line, after)) = first_line(rest) {
+    for line in Lines::new(input) {
         answer(rt, &mut rule, line)?;
-        rest = after;
     }
     Ok(())
 }
@@ -42,9 +40,7 @@ fn answer(rt: &HostRuntime, rule: &mut Rule, line: &[u8]) -> io::Result<()> {
         return println!(rt; "bad line");
     }
     if let Err(refusal) = rule.read(1, case.text) {
-        let number = refusal.number();
-        let place = refusal.place();
-        return println!(rt; "refused {number} at {place}");
+        return println!(rt; "refused {refusal}");
     }
     if case.whole {
         let letter = letter(rule, rows.as_slice());
@@ -57,10 +53,9 @@ fn answer(rt: &HostRuntime, rule: &mut Rule, line: &[u8]) -> io::Result<()> {
 // The letters of all beginnings.
 fn letters(heap: Global, rule: &Rule, rows: &[Row]) -> Result<String, AllocError> {
     let mut letters = String::new(heap);
-    for k in 0..rows.len() {
-        letters.push(letter(rule, &rows[0..k]))?;
+    for k in 0..=rows.len() {
+        letters.push(letter(rule, &rows[..k]))?;
     }
-    letters.push(letter(rule, rows))?;
     Ok(letters)
 }
 

@@ -1,5 +1,6 @@
 -- One order on a watch, by what came from below.
-use Rattle.std.proofs.Common.{◌≡◌, ℕ, Bool, true, false, cond, ◌||◌, T, leb, List, [], ◌∷◌, Some, None, Option, sym, refl, ap, ◌∙◌, subst, arith}
+use Rattle.std.proofs.Common.{◌≡◌, ℕ, Bool, true, false, cond, ◌||◌, ◌==◌, ◌≤◌, T, leb, List, [], ◌∷◌, Some, None, Ok, Err, Option, sym, refl, ap, ◌∙◌, subst, arith}
+use Rattle.std.proofs.lemmas.Bool.Decides.{nat_tests}
 use mathlib.Core.Path.{fun_ext}
 use Rattle.engine.specs.declared.Values.{Values}
 use Rattle.engine.specs.declared.Row.{Row}
@@ -7,21 +8,19 @@ use Rattle.engine.specs.declared.orders.Order.{Order}
 use Rattle.engine.specs.declared.answers.Fault.{Fault}
 use Rattle.engine.specs.declared.answers.Refusal.{Refusal}
 use Rattle.engine.specs.declared.answers.Refusal.TheVariants.{Full}
-use Rattle.engine.specs.declared.answers.Answer.{Answer}
-use Rattle.engine.specs.declared.answers.Answer.TheVariants.{Taken, Refused, Halted}
+use Rattle.engine.specs.declared.answers.OrderError.TheVariants.{Refused, Halted}
 use Rattle.engine.specs.Values.{row_of}
-use Rattle.engine.specs.Books.{Page, live, halted, Book, Lawful, after, answer, answer_on, refused_or, outcome, none, takes, is_live, refusal_on}
+use Rattle.engine.specs.Answers.{Answer}
+use Rattle.engine.specs.Books.{Page, live, halted, Book, Lawful, after, answer, answer_on, foretold, refused_or, outcome, none, takes, is_live, refusal_on}
 use Rattle.matching.specs.Walk.{Told}
 use Rattle.matching.specs.Passing.{PassesRule, tried, tried_told}
 use Rattle.ledger.specs.Ledger.{Watcher, Ledger, ledger_from, entered, counted, kept, faulted, took, ran, page_of, page_over, filled, failed, halting, risen}
 use Rattle.ledger.specs.Lawfuls.{idle}
 use Rattle.ledger.proofs.Steps.{led, on_taken, for_good}
 use Rattle.ledger.proofs.Words.{come_to}
-use Rattle.watch.specs.declared.watch.State.{State}
-use Rattle.watch.specs.declared.watch.State.TheVariants.{Live, Halted as Still}
 use Rattle.watch.specs.declared.watch.Watch.{Watch}
-use Rattle.watch.specs.Tables.{count_of, rows_of}
-use Rattle.watch.specs.Watching.{asked, below_after, fault_of, halt_on, is_taken, standing, watcher, book_of, Obeyed}
+use Rattle.watch.specs.Tables.{rows_of}
+use Rattle.watch.specs.Watching.{is_taken, standing, watcher, book_of, Obeyed}
 
 answer_taken : (p : Page) (o : Order) (a : Answer) → takes p o ≡ true → answer_on p o a ≡ a
 answer_taken (halted f) o a e = cc
@@ -33,6 +32,10 @@ answer_taken (live v w) o a e = by (w o) e where
 or_false : (k : Bool) → (k || false) ≡ k
 or_false true = refl
 or_false false = refl
+
+-- 400 rows fill a watch
+pub not_filled : (n : ℕ) → n ≤ 400 → (n == 400) ≡ false → (leb 400 n || false) ≡ false
+not_filled n within other = grind (arith, nat_tests)
 
 untrue : (k : Bool) → k ≡ false → T k → ⊥
 untrue true e t = absurd (let z : ◌≡◌ {A = ℕ} 0 1 = cc in omega arith)
@@ -72,11 +75,11 @@ module _ (w : Watcher) (b : Book) (n : ℕ) (rows : List Row) (o : Order) where
   abbrev ws : List Watcher
   ws = w ∷ []
 
-  abbrev stood : State → Ledger
-  stood s = led [] n rows (fault_of s)
+  abbrev stood : Option Fault → Ledger
+  stood f = led [] n rows f
 
   -- an order that is not taken
-  not_met : (s : State) → takes (page_of ws b (stood s)) o ≡ false → (b' : Book) → b' ≡ b → (a : Answer) → a ≡ answer (ledger_from ws b (stood s)) o
+  not_met : (s : Option Fault) → takes (page_of ws b (stood s)) o ≡ false → (b' : Book) → b' ≡ b → (a : Answer) → a ≡ answer (ledger_from ws b (stood s)) o
       → (l : Ledger) → l.rows ≡ rows → ledger_from ws b' l ≡ after (ledger_from ws b (stood s)) o → Met w b (stood s) o b' a l
   not_met s e b' same a told l kept_same moved = record {
     told = told;
@@ -87,27 +90,27 @@ module _ (w : Watcher) (b : Book) (n : ℕ) (rows : List Row) (o : Order) where
   }
 
   -- the same where the watch stays as it is
-  idle_met : (s : State) → takes (page_of ws b (stood s)) o ≡ false → (b' : Book) → b' ≡ b → (a : Answer) → a ≡ answer (ledger_from ws b (stood s)) o
+  idle_met : (s : Option Fault) → takes (page_of ws b (stood s)) o ≡ false → (b' : Book) → b' ≡ b → (a : Answer) → a ≡ answer (ledger_from ws b (stood s)) o
       → Met w b (stood s) o b' a (stood s)
   idle_met s e b' same a told =
       not_met s e b' same a told (stood s) refl
       (ap (λ d. ledger_from ws d (stood s)) same ∙ fun_ext (λ os. sym (ap (λ l. page_of ws b (ran ws b l os)) (idle ws b (stood s) o e))))
 
   -- over a halted page the watch halts too
-  halted_met : (f : Fault) → b [] ≡ halted f → (b' : Book) → b' ≡ b → Met w b (stood Live) o b' (Halted (risen f)) (led [] n rows (Some (risen f)))
+  halted_met : (f : Fault) → b [] ≡ halted f → (b' : Book) → b' ≡ b → Met w b (stood None) o b' (Err (Halted (risen f))) (led [] n rows (Some (risen f)))
   halted_met f on b' same =
-      let page : page_of ws b (stood Live) ≡ halted (risen f) = ap (page_over ws n) on in
-      not_met Live (ap (λ p. takes p o) page) b' same (Halted (risen f))
-      (sym (ap (λ p. answer_on p o (outcome (ledger_from ws b (stood Live) (o ∷ [])))) page))
+      let page : page_of ws b (stood None) ≡ halted (risen f) = ap (page_over ws n) on in
+      not_met None (ap (λ p. takes p o) page) b' same (Err (Halted (risen f)))
+      (sym (ap (λ p. answer_on p o (outcome (ledger_from ws b (stood None) (o ∷ [])))) page))
       (led [] n rows (Some (risen f))) refl
-      (for_good ws b' (led [] n rows (Some (risen f))) (risen f) refl ∙ sym (ap (λ (d : Book). after d o) (for_good ws b (stood Live) (risen f) page)))
+      (for_good ws b' (led [] n rows (Some (risen f))) (risen f) refl ∙ sym (ap (λ (d : Book). after d o) (for_good ws b (stood None) (risen f) page)))
 
   -- an order that is taken
-  taken_met : takes (page_of ws b (stood Live)) o ≡ true
-      → Met w b (stood Live) o (after b o) (halting (entered ws [] (row_of (Some o)) n rows (b (o ∷ []))).fault) (entered ws [] (row_of (Some o)) n rows (b (o ∷ [])))
+  taken_met : takes (page_of ws b (stood None)) o ≡ true
+      → Met w b (stood None) o (after b o) (halting (entered ws [] (row_of (Some o)) n rows (b (o ∷ []))).fault) (entered ws [] (row_of (Some o)) n rows (b (o ∷ [])))
   taken_met e = record {
-    told = sym (answer_taken (page_of ws b (stood Live)) o (outcome (ledger_from ws b (stood Live) (o ∷ []))) e
-        ∙ ap (λ k. outcome (page_of ws b (cond k (took ws b (stood Live) o) (stood Live)))) e
+    told = sym (answer_taken (page_of ws b (stood None)) o (outcome (ledger_from ws b (stood None) (o ∷ []))) e
+        ∙ ap (λ k. outcome (page_of ws b (cond k (took ws b (stood None) o) (stood None)))) e
         ∙ come_to ws (row_of (Some o)) n rows (b (o ∷ [])));
     moved = on_taken ws b n rows None o e;
     below = sym (ap (λ k. cond k (after b o) b) e);
@@ -115,59 +118,67 @@ module _ (w : Watcher) (b : Book) (n : ℕ) (rows : List Row) (o : Order) where
     passing = λ t h. enters_told w (row_of (Some o)) n rows (b (o ∷ [])) h;
   }
 
-  -- What the watch answers and how it stands then, by its state, the answer from below and the page below.
-  abbrev pub up : State → Option Answer → Page → Answer
-  up (Still f) came p = Halted f
-  up Live None p = Refused Full
-  up Live (Some (Refused why)) p = Refused why
-  up Live (Some (Halted f)) p = Halted (risen f)
-  up Live (Some Taken) p = halting (entered ws [] (row_of (Some o)) n rows p).fault
+  -- a watch that has halted answers by its fault
+  pub still_met : (f : Fault) → Met w b (stood (Some f)) o b (Err (Halted f)) (stood (Some f))
+  still_met f = idle_met (Some f) refl b refl (Err (Halted f)) refl
 
-  abbrev pub next : State → Option Answer → Page → Ledger
-  next (Still f) came p = stood (Still f)
-  next Live None p = stood Live
-  next Live (Some (Refused why)) p = stood Live
-  next Live (Some (Halted f)) p = led [] n rows (Some (risen f))
-  next Live (Some Taken) p = entered ws [] (row_of (Some o)) n rows p
+  -- a full watch is told whether the engine below has halted, and refuses the order if it has not
+  pub full_halted : (f : Fault) → foretold b o ≡ Err (Halted f) → Met w b (stood None) o b (Err (Halted (risen f))) (led [] n rows (Some (risen f)))
+  full_halted f told = halted_met f (by (b []) told) b refl where
+    by : (p : Page) → answer_on p o (Ok tt) ≡ Err (Halted f) → p ≡ halted f
+    by (halted g) e = cc
+    by (live v q) e = absurd (never (q o) e) where
+      never : (r : Option Refusal) → refused_or r (Ok tt) ≡ Err (Halted f) → ⊥
+      never None e = let z : ◌≡◌ {A = ℕ} 0 1 = cc in omega arith
+      never (Some why) e = let z : ◌≡◌ {A = ℕ} 0 1 = cc in omega arith
+
+  pub full_refused : filled ws n ≡ true → (T (is_live (b []))) → Met w b (stood None) o b (Err (Refused Full)) (stood None)
+  full_refused full lives = by (b []) refl lives where
+    by : (p : Page) → b [] ≡ p → T (is_live p) → Met w b (stood None) o b (Err (Refused Full)) (stood None)
+    by (halted f) on t = absurd t
+    by (live v q) on t =
+        let page : page_of ws b (stood None) ≡ live v (λ x. Some Full) = ap (page_over ws n) on ∙ ap (λ k. live v (λ x. cond k (Some Full) (q x))) full in
+        idle_met None (ap (λ p. takes p o) page) b refl (Err (Refused Full)) (sym (ap (λ p. answer_on p o (outcome (ledger_from ws b (stood None) (o ∷ [])))) page))
+
+  -- What a watch answers and how it stands then, by the answer from below and the page below.
+  abbrev pub up : Answer → Page → Answer
+  up (Err (Refused why)) p = Err (Refused why)
+  up (Err (Halted f)) p = Err (Halted (risen f))
+  up (Ok x) p = halting (entered ws [] (row_of (Some o)) n rows p).fault
+
+  abbrev pub next : Answer → Page → Ledger
+  next (Err (Refused why)) p = stood None
+  next (Err (Halted f)) p = led [] n rows (Some (risen f))
+  next (Ok x) p = entered ws [] (row_of (Some o)) n rows p
 
   -- an order that is taken below leads to a live or a halted page, and both come up alike
-  outcome_met : Met w b (stood Live) o (after b o) (halting (entered ws [] (row_of (Some o)) n rows (b (o ∷ []))).fault) (entered ws [] (row_of (Some o)) n rows (b (o ∷ [])))
-      → Met w b (stood Live) o (after b o) (up Live (Some (outcome (b (o ∷ [])))) (b (o ∷ []))) (next Live (Some (outcome (b (o ∷ [])))) (b (o ∷ [])))
+  outcome_met : Met w b (stood None) o (after b o) (halting (entered ws [] (row_of (Some o)) n rows (b (o ∷ []))).fault) (entered ws [] (row_of (Some o)) n rows (b (o ∷ [])))
+      → Met w b (stood None) o (after b o) (up (outcome (b (o ∷ []))) (b (o ∷ []))) (next (outcome (b (o ∷ []))) (b (o ∷ [])))
   outcome_met m = by (b (o ∷ [])) m where
-    by : (p : Page) → Met w b (stood Live) o (after b o) (halting (entered ws [] (row_of (Some o)) n rows p).fault) (entered ws [] (row_of (Some o)) n rows p)
-        → Met w b (stood Live) o (after b o) (up Live (Some (outcome p)) p) (next Live (Some (outcome p)) p)
+    by : (p : Page) → Met w b (stood None) o (after b o) (halting (entered ws [] (row_of (Some o)) n rows p).fault) (entered ws [] (row_of (Some o)) n rows p)
+        → Met w b (stood None) o (after b o) (up (outcome p) p) (next (outcome p) p)
     by (live v q) m = m
     by (halted f) m = m
 
-  full_met : filled ws n ≡ true → (p : Page) → b [] ≡ p → Met w b (stood Live) o b (up Live (halt_on p) (b [])) (next Live (halt_on p) (b []))
-  full_met full (halted f) on = halted_met f on b refl
-  full_met full (live v q) on =
-      let page : page_of ws b (stood Live) ≡ live v (λ x. Some Full) = ap (page_over ws n) on ∙ ap (λ k. live v (λ x. cond k (Some Full) (q x))) full in
-      idle_met Live (ap (λ p. takes p o) page) b refl (Refused Full) (sym (ap (λ p. answer_on p o (outcome (ledger_from ws b (stood Live) (o ∷ [])))) page))
-
   given_met : Lawful b → filled ws n ≡ false → (p : Page) → b [] ≡ p
-      → Met w b (stood Live) o (after b o) (up Live (Some (answer_on p o (outcome (b (o ∷ []))))) (b (o ∷ []))) (next Live (Some (answer_on p o (outcome (b (o ∷ []))))) (b (o ∷ [])))
+      → Met w b (stood None) o (after b o) (up (answer_on p o (outcome (b (o ∷ [])))) (b (o ∷ []))) (next (answer_on p o (outcome (b (o ∷ [])))) (b (o ∷ [])))
   given_met lawful room (halted f) on = halted_met f on (after b o) (fun_ext (λ os. lawful.halts [] f (o ∷ os) on ∙ sym (lawful.halts [] f os on)))
-  given_met lawful room (live v q) on = by (q o) (ap (λ p. refusal_on p o) on) (ap (λ p. takes p o) page) (ap (λ p. answer_on p o (outcome (ledger_from ws b (stood Live) (o ∷ [])))) page) where
-    page : page_of ws b (stood Live) ≡ live v q
+  given_met lawful room (live v q) on = by (q o) (ap (λ p. refusal_on p o) on) (ap (λ p. takes p o) page) (ap (λ p. answer_on p o (outcome (ledger_from ws b (stood None) (o ∷ [])))) page) where
+    page : page_of ws b (stood None) ≡ live v q
     page = ap (page_over ws n) on ∙ ap (λ k. live v (λ x. cond k (Some Full) (q x))) room
 
-    by : (r : Option Refusal) → refusal_on (b []) o ≡ r → takes (page_of ws b (stood Live)) o ≡ none r
-        → answer (ledger_from ws b (stood Live)) o ≡ refused_or r (outcome (ledger_from ws b (stood Live) (o ∷ [])))
-        → Met w b (stood Live) o (after b o) (up Live (Some (refused_or r (outcome (b (o ∷ []))))) (b (o ∷ []))) (next Live (Some (refused_or r (outcome (b (o ∷ []))))) (b (o ∷ [])))
+    by : (r : Option Refusal) → refusal_on (b []) o ≡ r → takes (page_of ws b (stood None)) o ≡ none r
+        → answer (ledger_from ws b (stood None)) o ≡ refused_or r (outcome (ledger_from ws b (stood None) (o ∷ [])))
+        → Met w b (stood None) o (after b o) (up (refused_or r (outcome (b (o ∷ [])))) (b (o ∷ []))) (next (refused_or r (outcome (b (o ∷ [])))) (b (o ∷ [])))
     by None below taken told = outcome_met (taken_met taken)
-    by (Some why) below taken told = idle_met Live taken (after b o) (fun_ext (λ os. lawful.refuses [] o os why below)) (Refused why) (sym told)
+    by (Some why) below taken told = idle_met None taken (after b o) (fun_ext (λ os. lawful.refuses [] o os why below)) (Err (Refused why)) (sym told)
 
-  -- What came from below, and what comes of it.
-  pub said : Lawful b → (s : State) (full : Bool) → filled ws n ≡ full → (b' : Book) → b' ≡ below_after s full b o → (came : Option Answer) → came ≡ asked s full b o
-      → Met w b (stood s) o b' (up s came (b' [])) (next s came (b' []))
-  said lawful (Still f) full room b' moved came e = idle_met (Still f) refl b' moved (Halted f) refl
-  said lawful Live true full b' moved came e =
-      subst (λ (d : Book). Met w b (stood Live) o d (up Live came (d [])) (next Live came (d []))) (sym moved)
-      (subst (λ x. Met w b (stood Live) o b (up Live x (b [])) (next Live x (b []))) (sym e) (full_met full (b []) refl))
-  said lawful Live false room b' moved came e =
-      subst (λ (d : Book). Met w b (stood Live) o d (up Live came (d [])) (next Live came (d []))) (sym moved)
-      (subst (λ x. Met w b (stood Live) o (after b o) (up Live x (b (o ∷ []))) (next Live x (b (o ∷ [])))) (sym e) (given_met lawful room (b []) refl))
+  -- what came from below when it was given the order, and what comes of it
+  pub given : Lawful b → filled ws n ≡ false → (b' : Book) → b' ≡ after b o → (came : Answer) → came ≡ answer b o
+      → Met w b (stood None) o b' (up came (b' [])) (next came (b' []))
+  given lawful room b' moved came e =
+      subst (λ (d : Book). Met w b (stood None) o d (up came (d [])) (next came (d []))) (sym moved)
+      (subst (λ x. Met w b (stood None) o (after b o) (up x (b (o ∷ []))) (next x (b (o ∷ [])))) (sym e) (given_met lawful room (b []) refl))
 
 -- The same of a watch, once its fields are known.
 module _ {E : Type 0} (book : E → Book) (old new : Watch E) (o : Order) (a : Answer) where
@@ -176,13 +187,13 @@ module _ {E : Type 0} (book : E → Book) (old new : Watch E) (o : Order) (a : A
     pub moved : book_of book new ≡ after (book_of book old) o
     pub obeyed : Obeyed book old new o a
 
-  pub finish : (b' : Book) (a' : Answer) (l : Ledger) → Met (watcher old.rule) (book old.below) (standing old.state old.table) o b' a' l
-      → a ≡ a' → book new.below ≡ b' → standing new.state new.table ≡ l → new.rule ≡ old.rule → Contract
+  pub finish : (b' : Book) (a' : Answer) (l : Ledger) → Met (watcher old.rule) (book old.below) (standing old.fault old.rows) o b' a' l
+      → a ≡ a' → book new.below ≡ b' → standing new.fault new.rows ≡ l → new.rule ≡ old.rule → Contract
   finish b' a' l m said below stands rule = record {
     told = said ∙ m.told;
     moved =
-        ap (λ u. ledger_from (watcher u ∷ []) (book new.below) (standing new.state new.table)) rule
-        ∙ ap (λ d. ledger_from (watcher old.rule ∷ []) d (standing new.state new.table)) below
+        ap (λ u. ledger_from (watcher u ∷ []) (book new.below) (standing new.fault new.rows)) rule
+        ∙ ap (λ d. ledger_from (watcher old.rule ∷ []) d (standing new.fault new.rows)) below
         ∙ ap (ledger_from (watcher old.rule ∷ []) b') stands
         ∙ m.moved;
     obeyed = record {
@@ -190,26 +201,13 @@ module _ {E : Type 0} (book : E → Book) (old new : Watch E) (o : Order) (a : A
       below = below ∙ m.below;
       rows = ap (λ (k : Ledger). k.rows) stands ∙ m.kept_rows;
       passing = λ t h.
-          subst (λ x. Told (is_taken x) (PassesRule (watcher old.rule).tree (rows_of new.table))) (sym said)
+          subst (λ x. Told (is_taken x) (PassesRule (watcher old.rule).tree (rows_of new.rows))) (sym said)
           (subst (λ rs. Told (is_taken a') (PassesRule (watcher old.rule).tree rs)) (sym (ap (λ (k : Ledger). k.rows) stands)) (m.passing t h));
     };
   }
 
-  -- one order on a live watch, by what came from below
-  pub on_live : Lawful (book old.below) → old.state ≡ Live
-      → (b' : Book) → b' ≡ below_after old.state (leb 400 (count_of old.table)) (book old.below) o
-      → (came : Option Answer) → asked old.state (leb 400 (count_of old.table)) (book old.below) o ≡ came
-      → a ≡ up (watcher old.rule) (book old.below) (count_of old.table) (rows_of old.table) o Live came (b' [])
-      → book new.below ≡ b'
-      → standing new.state new.table ≡ next (watcher old.rule) (book old.below) (count_of old.table) (rows_of old.table) o Live came (b' [])
-      → new.rule ≡ old.rule → Contract
-  on_live lawful live_state b' moved came k told below stands rule =
-      let w = watcher old.rule in
-      let n = count_of old.table in
-      let rows = rows_of old.table in
-      let b = book old.below in
-      finish b' _ _ (said w b n rows o lawful old.state (leb 400 n) (or_false (leb 400 n)) b' moved came (sym k))
-      (told ∙ sym (ap (λ s. up w b n rows o s came (b' [])) live_state))
-      below
-      (stands ∙ sym (ap (λ s. next w b n rows o s came (b' [])) live_state))
-      rule
+  -- the same of a watch that was live
+  pub on_live : old.fault ≡ None → (b' : Book) (a' : Answer) (l : Ledger)
+      → Met (watcher old.rule) (book old.below) (standing None old.rows) o b' a' l
+      → a ≡ a' → book new.below ≡ b' → standing new.fault new.rows ≡ l → new.rule ≡ old.rule → Contract
+  on_live same b' a' l m = finish b' a' l (subst (λ f. Met (watcher old.rule) (book old.below) (standing f old.rows) o b' a' l) (sym same) m)

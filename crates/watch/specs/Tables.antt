@@ -1,12 +1,16 @@
--- What a table of rows holds.
-use Rattle.std.specs.Prelude.{ℕ, List, reverse, take}
+-- The rows that a watch keeps.
+use Rattle.std.specs.Prelude.{ℕ, List, reverse}
+use Rattle.arrayvec.specs.ArrayVec.{ArrayVec, array_vec_len}
 use Rattle.engine.specs.declared.Row.{Row}
-use Rattle.watch.specs.declared.table.Table.{Table}
+
+-- the rows as they are kept, the oldest first
+abbrev pub Table : Type 0
+Table = ArrayVec Row
 
 -- how many rows there have been
 abbrev pub count_of : Table → ℕ
-count_of t = t.len
+count_of t = array_vec_len t
 
 -- the rows, newest first
 abbrev pub rows_of : Table → List Row
-rows_of t = reverse (take t.len t.rows)
+rows_of t = reverse t.items

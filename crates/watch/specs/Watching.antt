@@ -1,47 +1,38 @@
 -- A watch: its book, and what making it and giving it an order do to it.
-use Rattle.std.specs.Prelude.{◌≡◌, Bool, true, false, cond, T, List, [], ◌∷◌, Some, None, Option, nat_le}
+use Rattle.std.specs.Prelude.{◌≡◌, Bool, true, false, cond, T, List, [], ◌∷◌, Some, None, Ok, Err, Option}
 use Rattle.engine.specs.declared.Row.{Row}
 use Rattle.engine.specs.declared.Values.{Values}
 use Rattle.engine.specs.declared.orders.Order.{Order}
 use Rattle.engine.specs.declared.answers.Fault.{Fault}
-use Rattle.engine.specs.declared.answers.Answer.{Answer}
-use Rattle.engine.specs.declared.answers.Answer.TheVariants.{Taken, Refused, Halted}
 use Rattle.engine.specs.Values.{row_of}
-use Rattle.engine.specs.Books.{Page, live, halted, Book, after, answer, takes, is_live}
+use Rattle.engine.specs.Answers.{Answer}
+use Rattle.engine.specs.Books.{Book, after, takes, is_live}
 use Rattle.rule.specs.declared.rule.Rule.{Rule}
 use Rattle.rule.specs.Held.{watch_of, rule_tree}
 use Rattle.matching.specs.Walk.{Told}
 use Rattle.matching.specs.Passing.{PassesRule}
 use Rattle.ledger.specs.Ledger.{Watcher, carrying, Ledger, ledger, ledger_from, kept, entered}
-use Rattle.watch.specs.declared.table.Table.{Table}
-use Rattle.watch.specs.declared.watch.State.{State}
-use Rattle.watch.specs.declared.watch.State.TheVariants.{Live, Halted as Still}
 use Rattle.watch.specs.declared.watch.Watch.{Watch}
-use Rattle.watch.specs.Tables.{count_of, rows_of}
+use Rattle.watch.specs.Tables.{Table, count_of, rows_of}
 
 -- what the ledger knows of the watch that carries a rule
 abbrev pub watcher : Rule → Watcher
 watcher u = carrying (watch_of u) (rule_tree u)
 
-abbrev pub fault_of : State → Option Fault
-fault_of Live = None
-fault_of (Still f) = Some f
-
-abbrev pub standing : State → Table → Ledger
-standing s t = record { taken = []; count = count_of t; rows = rows_of t; fault = fault_of s }
+abbrev pub standing : Option Fault → Table → Ledger
+standing f t = record { taken = []; count = count_of t; rows = rows_of t; fault = f }
 
 -- The book of a watch over an engine whose book is given: the ledger of its rule alone over the book below, from where it stands.
 abbrev pub book_of : {E : Type 0} → (E → Book) → Watch E → Book
-book_of book w = ledger_from (watcher w.rule ∷ []) (book w.below) (standing w.state w.table)
+book_of book w = ledger_from (watcher w.rule ∷ []) (book w.below) (standing w.fault w.rows)
 
 -- the rows that a watch has kept, newest first
 abbrev pub watch_rows : {E : Type 0} → Watch E → List Row
-watch_rows w = rows_of w.table
+watch_rows w = rows_of w.rows
 
 abbrev pub is_taken : Answer → Bool
-is_taken Taken = true
-is_taken (Refused why) = false
-is_taken (Halted f) = false
+is_taken (Ok x) = true
+is_taken (Err e) = false
 
 -- What is made of a rule and an engine: the book is the ledger of that one watch over the engine's book, row 0 is kept if the engine
 -- is live, and then the watch is live exactly when row 0 passes the rule.
@@ -61,32 +52,8 @@ pub record Obeyed {E : Type 0} (book : E → Book) (old new : Watch E) (o : Orde
   pub passing : T (takes (book_of book old []) o) → T (is_live (book old.below (o ∷ [])))
       → Told (is_taken a) (PassesRule (rule_tree old.rule) (watch_rows new))
 
--- What the engine below answers, by the watch's state and whether it is full, and its book after. A halted watch gives no order, nor
--- does a full one: there the engine below answers only if it is halted.
-abbrev pub halt_on : Page → Option Answer
-halt_on (live v w) = None
-halt_on (halted f) = Some (Halted f)
-
-abbrev pub asked : State → Bool → Book → Order → Option Answer
-asked (Still f) full b o = None
-asked Live true b o = halt_on (b [])
-asked Live false b o = Some (answer b o)
-
-abbrev pub below_after : State → Bool → Book → Order → Book
-below_after (Still f) full b o = b
-below_after Live true b o = b
-below_after Live false b o = after b o
-
--- the engine below was asked, and nothing else of the watch has changed
-pub record Asked {E : Type 0} (book : E → Book) (old new : Watch E) (o : Order) (came : Option Answer) : Type 0 where
-  pub told : came ≡ asked old.state (nat_le 400 (count_of old.table)) (book old.below) o
-  pub moved : book new.below ≡ below_after old.state (nat_le 400 (count_of old.table)) (book old.below) o
-  pub state : new.state ≡ old.state
-  pub table : new.table ≡ old.table
-  pub rule : new.rule ≡ old.rule
-
 -- the watch has come to the page below, whose values make this row
 pub record Entered {E : Type 0} (book : E → Book) (line : Values → Row) (old new : Watch E) : Type 0 where
-  pub stands : standing new.state new.table ≡ entered (watcher old.rule ∷ []) [] line (count_of old.table) (rows_of old.table) (book old.below [])
+  pub stands : standing new.fault new.rows ≡ entered (watcher old.rule ∷ []) [] line (count_of old.rows) (rows_of old.rows) (book old.below [])
   pub rule : new.rule ≡ old.rule
   pub below : new.below ≡ old.below

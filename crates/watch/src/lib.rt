@@ -2,7 +2,6 @@
 #![tactic(auto)]
 
 mod runs;
-mod table;
 mod watch;
 
 pub use runs::{run, run_both};

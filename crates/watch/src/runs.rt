@@ -17,13 +17,6 @@ fn send<P: Engine>(pile: &mut P, call: Call) -> Reply
     }
 }
 
-// The smaller of two lengths.
-fn common(one: usize, other: usize) -> usize
-    ensures { result ≡ min one other }
-{
-    one.min(other)
-}
-
 // Sends calls to a pile, as many as there is room for replies, and says how many.
 pub fn run<P: Engine>(pile: &mut P, calls: &[Call], replies: &mut [Reply]) -> usize
     ensures count { result ≡ min (length calls.now) (length replies.old) }
@@ -31,9 +24,10 @@ pub fn run<P: Engine>(pile: &mut P, calls: &[Call], replies: &mut [Reply]) -> us
     ensures moved { P.Engine.book pile.new ≡ book_after_all (P.Engine.book pile.old) (take result calls.now) }
     ensures piled { AsPile (P.Engine.book pile.old) (take result calls.now) (take result replies.new) }
 {
-    let count = common(calls.len(), replies.len());
-    for i in 0..count {
-        replies[i] = send(pile, calls[i]);
+    let count = calls.len().min(replies.len());
+    // the reply is reached by its index: of what `iter_mut` under `zip` has written nothing would be known
+    for (i, call) in calls[..count].iter().enumerate() {
+        replies[i] = send(pile, *call);
     }
     count
 }
@@ -53,9 +47,8 @@ pub fn run_both<P: Engine, Q: Engine>(
     ensures other_moved { Q.Engine.book other.new ≡ book_after_all (Q.Engine.book other.old) (take result calls.now) }
     ensures paired { AsPair (P.Engine.book pile.old) (Q.Engine.book other.old) (take result calls.now) (take result replies.new) (take result others.new) }
 {
-    let room = common(replies.len(), others.len());
-    let count = common(calls.len(), room);
-    let calls = &calls[0..count];
+    let count = calls.len().min(replies.len()).min(others.len());
+    let calls = &calls[..count];
     run(pile, calls, replies);
     run(other, calls, others);
     count

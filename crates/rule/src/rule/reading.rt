@@ -8,26 +8,28 @@ ghost use Rattle.rule.specs.Held.{watch_of, tokens_of, rule_tree, Parsed, Outcom
 
 use crate::limits::{few, shallow, uncrowded};
 use crate::node::Node;
-use crate::reader::whole;
+use crate::reader::Reader;
 use crate::rule::Rule;
 use crate::tokens::Tokens;
 use crate::tree::Tree;
 use grammar::Refusal;
 
+const TEXT_LIMIT: usize = 4096;
+
 // A number that a watch may have.
 fn watch_number(n: i32) -> Result<u16, Refusal>
     ensures { MatchResult result (λ w. (pos w ≡ n) × Numbered n) (λ e. (e ≡ WatchNumber) × (Numbered n → ⊥)) }
 {
-    if n < 1 || n > 65_535 {
-        return Err(Refusal::WatchNumber);
-    }
-    Ok(n as u16)
+    u16::try_from(n)
+        .ok()
+        .filter(|watch| *watch != 0)
+        .ok_or(Refusal::WatchNumber)
 }
 
 fn short(text: &[u8]) -> Result<(), Refusal>
     ensures { MatchResult result (λ _. length text.now ≤ text_limit) (λ e. (e ≡ TextTooLong) × (text_limit < length text.now)) }
 {
-    if text.len() > 4096 {
+    if text.len() > TEXT_LIMIT {
         return Err(Refusal::TextTooLong);
     }
     Ok(())
@@ -58,13 +60,11 @@ impl Rule {
     {
         let watch = watch_number(watch)?;
         short(text)?;
-        let mut tokens = Tokens::new(text);
-        tokens.cut()?;
+        let tokens = Tokens::cut(text)?;
         few(&tokens)?;
         shallow(&tokens)?;
         let claims = uncrowded(&tokens)?;
-        let mut tree = Tree::new();
-        let root = whole(&mut tree, &tokens)?;
+        let (tree, root) = Reader::whole(&tokens)?;
         Ok(Rule {
             watch,
             tree,

@@ -1,12 +1,13 @@
 // Putting tokens into the table, and reading them from it.
-ghost use Rattle.std.specs.Prelude.{◌≡◌, true, [], ◌∷◌, ◌++◌, length, take, drop};
+ghost use Rattle.std.specs.Prelude.{◌≡◌, [], ◌∷◌, ◌++◌, length, take, drop};
 ghost use Rattle.grammar.specs.declared.Refusal.TheVariants.{Unexpected};
-ghost use Rattle.rule.specs.Spots.{real, spot, next_tag};
+ghost use Rattle.rule.specs.Spots.{spot, next_tag};
 ghost use Rattle.rule.specs.Stored.{spots_of, symbols_of, place_in, number_in};
 
 use crate::spelling::number_at;
 use crate::spot::Spot;
 use crate::tokens::Tokens;
+use arrayvec::ArrayVec;
 use grammar::{Refusal, Tag};
 
 impl<'a> Tokens<'a> {
@@ -17,52 +18,44 @@ impl<'a> Tokens<'a> {
     {
         Tokens {
             text,
-            spots: [Spot {
-                tag: Tag::End,
-                place: 0,
-            }; 501],
-            len: 0,
+            spots: ArrayVec::new(),
         }
     }
 
     // One token more, while there is room.
     pub(crate) fn push(&mut self, tag: Tag, place: usize)
-        requires { real tag ≡ true }
         ensures text { self.new.text.now ≡ self.old.text.now }
         ensures more { spots_of self.new ≡ take 501 (spots_of self.old ++ spot tag place ∷ []) }
     {
-        if self.len < 501 {
-            self.spots[self.len] = Spot { tag, place };
-            self.len += 1;
+        if !self.spots.is_full() {
+            self.spots.push(Spot { tag, place });
         }
     }
 
     pub(crate) fn len(&self) -> usize
         ensures { result ≡ length (spots_of self.now) }
     {
-        self.len
+        self.spots.len()
     }
 
-    // The tag of the token k, or the end's.
-    pub(crate) fn tag(&self, k: usize) -> Tag
+    pub(crate) fn spots(&self) -> &[Spot]
+        ensures { result.now ≡ spots_of self.now }
+    {
+        self.spots.as_slice()
+    }
+
+    // The tag of the token k, if there is one.
+    pub(crate) fn tag(&self, k: usize) -> Option<Tag>
         ensures { result ≡ next_tag (drop k (symbols_of self.now)) }
     {
-        if k < self.len {
-            self.spots[k].tag
-        } else {
-            Tag::End
-        }
+        self.spots.get(k).map(|spot| spot.tag)
     }
 
     // The place of the token k, or the text's length.
     pub(crate) fn place(&self, k: usize) -> usize
         ensures { result ≡ place_in self.now k }
     {
-        if k < self.len {
-            self.spots[k].place
-        } else {
-            self.text.len()
-        }
+        self.spots.get(k).map_or(self.text.len(), |spot| spot.place)
     }
 
     // The number that stands where the token k does.

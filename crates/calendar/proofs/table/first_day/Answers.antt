@@ -1,5 +1,5 @@
-use Rattle.std.proofs.Common.{◌+◌, ap, ◌∙◌, arith}
-use Rattle.calendar.specs.Months.{lengths, days_before}
+use Rattle.std.proofs.Common.{arith}
+use Rattle.calendar.proofs.Days.{first_day_within, year_start}
 use Rattle.calendar.proofs.Tables.{count}
 use Rattle.calendar.proofs.table.first_day.Goals as goal
 
@@ -7,6 +7,9 @@ pub bounds-starts-first_month : goal.bounds-starts-first_month
 bounds-starts-first_month c = omega (arith, c.month_starts-starts.ensures.size, count)
 
 pub returns : goal.returns
-returns c =
-    c.month_starts-starts.ensures.each c.first_month.result (omega (arith, count))
-    ∙ ap (λ k. 1 + days_before k lengths) c.first_month.ensures
+returns c = year_start _ c.month_starts-starts.ensures c.args.year c.first_month.result c.requires.first c.requires.last c.first_month.ensures
+
+pub invariant_of-result : goal.invariant_of-result
+invariant_of-result c =
+    let start = year_start _ c.month_starts-starts.ensures c.args.year c.first_month.result c.requires.first c.requires.last c.first_month.ensures in
+    record { from = omega (arith, start); to = omega (arith, start, first_day_within c.args.year c.requires.first c.requires.last) }

@@ -1,9 +1,7 @@
-use Rattle.std.proofs.Common.{◌≤◌, length}
+use Rattle.std.specs.Iterator.Adapters.{rev_source}
+use Rattle.std.specs.Slice.Iter.{iter_rest}
 use Rattle.matching.proofs.Trials.{Left}
 use Rattle.matching.proofs.walk.passes.Given as goal
 
-abbrev pub invariant-loop-newest : goal.invariant-loop-newest
-invariant-loop-newest l = (l.i ≤ length l.rows) × Left l.rule l.rows l.i l.entering l.marks
-
-abbrev pub decreases-loop-newest : goal.decreases-loop-newest
-decreases-loop-newest l = l.i
+abbrev pub invariant-loop-row : goal.invariant-loop-row
+invariant-loop-row l = Left l.rule l.rows l.newest l.entering l.marks (iter_rest (rev_source l.row-iterator))

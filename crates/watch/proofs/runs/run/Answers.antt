@@ -1,5 +1,6 @@
-use Rattle.std.proofs.Common.{◌≡◌, ◌<◌, length, take, drop, sym, ap, ◌∙◌, arith}
-use Rattle.engine.specs.Calls.{replies, book_after_all}
+use Rattle.std.proofs.Common.{◌≡◌, ◌<◌, min, length, take, drop, sym, ap, ◌∙◌, arith, length-take}
+use Rattle.std.proofs.lemmas.List.{get_or-take}
+use Rattle.engine.specs.Calls.{reply, replies, book_after, book_after_all}
 use Rattle.watch.proofs.Sending.{told_more, moved_more, rest_more, as_pile}
 use Rattle.watch.proofs.runs.run.Goals as goal
 
@@ -9,20 +10,24 @@ loop-i-preserved g c =
     let d = g.P.Engine.book c.loop-i.pile in
     let cs = c.args.calls.now in
     let i = c.loop-i.i in
-    let within : i < length cs = omega arith in
-    let room : i < length c.loop-i.replies = omega arith in (
-      told_more b cs i _ within d c.loop-i.invariant.2 c.loop-i.replies c.send.result room c.loop-i.invariant.0 c.send.ensures.told,
+    let n = c.min-count.result in
+    let size : length (take n cs) ≡ min n (length cs) = length-take n cs in
+    let within : i < length cs = omega (arith, size) in
+    let room : i < length c.loop-i.replies = omega (arith, size) in
+    let call = get_or-take n cs i _ (omega (arith, size)) in (
+      told_more b cs i _ within d c.loop-i.invariant.2 c.loop-i.replies c.send.result room c.loop-i.invariant.0 (c.send.ensures.told ∙ ap (reply d) call),
       rest_more i c.args.replies.now c.loop-i.replies c.send.result c.loop-i.invariant.1,
-      moved_more b cs i _ within d c.loop-i.invariant.2 (g.P.Engine.book c.send.new.pile) c.send.ensures.moved,
+      moved_more b cs i _ within d c.loop-i.invariant.2 (g.P.Engine.book c.send.new.pile) (c.send.ensures.moved ∙ ap (book_after d) call),
     )
 
 pub returns : goal.returns
 returns g c =
     let b = g.P.Engine.book c.args.pile.now in
     let cs = c.args.calls.now in
-    let n = c.common-count.result in
+    let n = c.min-count.result in
     let rs = c.loop-i.replies in
-    let at : c.loop-i.i ≡ n = omega arith in
+    let size : length (take n cs) ≡ min n (length cs) = length-take n cs in
+    let at : c.loop-i.i ≡ n = omega (arith, size) in
     let told : take n rs ≡ replies b (take n cs) = ap (λ k. take k rs) (sym at) ∙ c.loop-i.invariant.0 ∙ ap (λ k. replies b (take k cs)) at in
     record {
       count = omega arith;

@@ -12,5 +12,5 @@ overflow_sub-result c = omega (arith, c.month_starts-starts.ensures.each c.month
 pub invariant_of-result : goal.invariant_of-result
 invariant_of-result c =
     let falls = c.month_of-month.ensures in
-    let there = found_in lengths c.month_starts-starts.result.now c.month_starts-starts.ensures c.args.day c.month_of-month.result (omega (arith, count)) falls.from falls.until in
-    record { begun = c.requires.first; within = c.requires.last; placed = sym (ap (λ (p : Place). p.month) there); dated = sym (ap (λ (p : Place). p.day) there) }
+    let there = found_in lengths c.month_starts-starts.result.now c.month_starts-starts.ensures c.args.day.number c.month_of-month.result (omega (arith, count)) falls.from falls.until in
+    record { placed = sym (ap (λ (p : Place). p.month) there); dated = sym (ap (λ (p : Place). p.day) there) }

@@ -5,7 +5,7 @@ use Rattle.grammar.specs.Limits.{claim_limit, claiming, count}
 use Rattle.grammar.specs.Reading.{Numbered}
 use Rattle.grammar.proofs.Counts.{rule_claims}
 use Rattle.rule.specs.Spots.{symbol_at}
-use Rattle.rule.specs.Stored.{spots_of, symbols_of, Stores, Stops}
+use Rattle.rule.specs.Stored.{spots_of, symbols_of}
 use Rattle.rule.proofs.Finish.{watch_refused, long_refused, cut_refused, many_refused, deep_refused, crowd_refused, bad_refused, numbered_within, held, read_parsed, refused_parsed}
 use Rattle.rule.proofs.rule.Rule.parsed.Goals as goal
 
@@ -24,13 +24,13 @@ returns-in_err-short c =
     let q = let r = c.in_err-short.ensures in long_refused w r.0 r.1 in
     rw (p.1, p.2) (refused_parsed _ q)
 
-pub returns-in_err-cut : goal.returns-in_err-cut
-returns-in_err-cut c =
-    let p = err_from_is_err_and c.from_residual-in_err-cut.result c.from_residual-in_err-cut.ensures.1 in
+pub returns-in_err-tokens : goal.returns-in_err-tokens
+returns-in_err-tokens c =
+    let p = err_from_is_err_and c.from_residual-in_err-tokens.result c.from_residual-in_err-tokens.ensures.1 in
     let z : to_z w32 (of_z w32 c.args.watch) ≡ c.args.watch = search rules in
     let w = subst Numbered z c.in_ok-watch.ensures.1 in
     let l = c.in_ok-short.ensures in
-    let q = cut_refused w l (subst (λ b. Stops b c.in_err-cut.field-0.0) c.new-tokens.ensures.text c.in_err-cut.ensures) in
+    let q = cut_refused w l c.in_err-tokens.ensures in
     rw (p.1, p.2) (refused_parsed _ q)
 
 pub returns-in_err-few : goal.returns-in_err-few
@@ -39,7 +39,7 @@ returns-in_err-few c =
     let z : to_z w32 (of_z w32 c.args.watch) ≡ c.args.watch = search rules in
     let w = subst Numbered z c.in_ok-watch.ensures.1 in
     let l = c.in_ok-short.ensures in
-    let s = subst (λ b. Stores b c.cut.new.self) c.new-tokens.ensures.text c.in_ok-cut.ensures in
+    let s = c.in_ok-tokens.ensures in
     let q = let r = c.in_err-few.ensures in many_refused w l s r.0 r.1 in
     rw (p.1, p.2) (refused_parsed _ q)
 
@@ -49,7 +49,7 @@ returns-in_err-shallow c =
     let z : to_z w32 (of_z w32 c.args.watch) ≡ c.args.watch = search rules in
     let w = subst Numbered z c.in_ok-watch.ensures.1 in
     let l = c.in_ok-short.ensures in
-    let s = subst (λ b. Stores b c.cut.new.self) c.new-tokens.ensures.text c.in_ok-cut.ensures in
+    let s = c.in_ok-tokens.ensures in
     let f = c.in_ok-few.ensures in
     let q = deep_refused w l s f c.in_err-shallow.ensures in
     rw (p.1, p.2) (refused_parsed _ q)
@@ -60,24 +60,24 @@ returns-in_err-claims c =
     let z : to_z w32 (of_z w32 c.args.watch) ≡ c.args.watch = search rules in
     let w = subst Numbered z c.in_ok-watch.ensures.1 in
     let l = c.in_ok-short.ensures in
-    let s = subst (λ b. Stores b c.cut.new.self) c.new-tokens.ensures.text c.in_ok-cut.ensures in
+    let s = c.in_ok-tokens.ensures in
     let f = c.in_ok-few.ensures in
     let d = c.in_ok-shallow.ensures in
     let q = crowd_refused w l s f d c.in_err-claims.ensures in
     rw (p.1, p.2) (refused_parsed _ q)
 
-pub returns-in_err-root : goal.returns-in_err-root
-returns-in_err-root c =
-    let p = err_from_is_err_and c.from_residual-in_err-root.result c.from_residual-in_err-root.ensures.1 in
+pub returns-in_err-tree : goal.returns-in_err-tree
+returns-in_err-tree c =
+    let p = err_from_is_err_and c.from_residual-in_err-tree.result c.from_residual-in_err-tree.ensures.1 in
     let z : to_z w32 (of_z w32 c.args.watch) ≡ c.args.watch = search rules in
     let w = subst Numbered z c.in_ok-watch.ensures.1 in
     let l = c.in_ok-short.ensures in
-    let s = subst (λ b. Stores b c.cut.new.self) c.new-tokens.ensures.text c.in_ok-cut.ensures in
+    let s = c.in_ok-tokens.ensures in
     let f = c.in_ok-few.ensures in
     let d = c.in_ok-shallow.ensures in
     let k = c.in_ok-claims.ensures in
-    let m : count claiming (symbols_of c.cut.new.self) ≤ claim_limit = omega (arith, k) in
-    let q = bad_refused w l s f d m c.in_err-root.ensures in
+    let m : count claiming (symbols_of c.in_ok-tokens.tokens) ≤ claim_limit = omega (arith, k) in
+    let q = bad_refused w l s f d m c.in_err-tree.ensures in
     rw (p.1, p.2) (refused_parsed _ q)
 
 pub invariant_of-result : goal.invariant_of-result
@@ -87,10 +87,10 @@ invariant_of-result c =
     let e = c.in_ok-watch.ensures.0 ∙ z in
     let f = c.in_ok-few.ensures in
     let k = c.in_ok-claims.ensures in
-    let t = c.cut.new.self in
+    let t = c.in_ok-tokens.tokens in
     let long = length-map (spots_of t) (symbol_at t.text.now) in
     let v = numbered_within c.in_ok-watch.watch e w in
-    let r = c.in_ok-root.ensures in
+    let r = c.in_ok-tree.ensures in
     record { least = v.0; most = v.1; rooted = r.there; few = omega (arith, c.len.ensures, long, f); counted = k.0 ∙ rule_claims r.derived; limited = k.1 }
 
 pub returns : goal.returns
@@ -99,11 +99,11 @@ returns c =
     let w = subst Numbered z c.in_ok-watch.ensures.1 in
     let e = c.in_ok-watch.ensures.0 ∙ z in
     let l = c.in_ok-short.ensures in
-    let s = subst (λ b. Stores b c.cut.new.self) c.new-tokens.ensures.text c.in_ok-cut.ensures in
+    let s = c.in_ok-tokens.ensures in
     let f = c.in_ok-few.ensures in
     let d = c.in_ok-shallow.ensures in
     let k = c.in_ok-claims.ensures in
-    let t = c.cut.new.self in
+    let t = c.in_ok-tokens.tokens in
     let long = length-map (spots_of t) (symbol_at t.text.now) in
     let m : count claiming (symbols_of t) ≤ claim_limit = omega (arith, k) in
-    read_parsed _ (held w l s f d m _ c.in_ok-root.ensures.derived e (c.len.ensures ∙ sym long))
+    read_parsed _ (held w l s f d m _ c.in_ok-tree.ensures.derived e (c.len.ensures ∙ sym long))

@@ -1,38 +1,23 @@
-use Rattle.std.proofs.Common.{◌≡◌, true, [], ◌∷◌, ◌++◌, sym, refl, ◌∙◌, subst, arith, length-append, length-set, length-take-le, take_all}
-use lib.Seq.{take-append-le}
-use Rattle.std.proofs.lemmas.List.{take_more_set}
-use Rattle.rule.specs.Spots.{spot, all_real}
+use Rattle.std.proofs.Common.{◌<◌, ◌≤◌, [], ◌∷◌, ◌++◌, length, sym, ◌∙◌, arith, length-append, take_all}
+use Rattle.std.proofs.lemmas.List.{take-append-le}
+use Rattle.std.proofs.lemmas.Bool.Decides.{nat_tests}
+use Rattle.rule.specs.Spots.{spot}
 use Rattle.rule.specs.Stored.{spots_of}
-use Rattle.rule.proofs.Spotted.{real_push}
 use Rattle.rule.proofs.tokens.Tokens.push.Goals as goal
 
 pub invariant_of-self : goal.invariant_of-self
-invariant_of-self c =
-    let t = c.args.self.now in
-    let s = spot c.args.tag c.args.place in
-    let more = take_more_set t.spots t.len s (omega (arith, t.room, c.if-self-lt501.true)) in
-    record { room = simp length-set t.room; few = omega (arith, c.if-self-lt501.true); real = subst (λ l. all_real l ≡ true) (sym more) (real_push (spots_of t) s t.real c.requires) }
+invariant_of-self c = grind (arith, nat_tests)
 
-pub returns-then-self-lt501 : goal.returns-then-self-lt501
-returns-then-self-lt501 c =
+pub returns-then-not-is_full-clause-more : goal.returns-then-not-is_full-clause-more
+returns-then-not-is_full-clause-more c =
     let t = c.args.self.now in
     let s = spot c.args.tag c.args.place in
-    let long = length-take-le t.len t.spots (omega (arith, t.room, t.few)) in
-    record {
-      text = refl;
-      more =
-          take_more_set t.spots t.len s (omega (arith, t.room, c.if-self-lt501.true))
-          ∙ sym (take_all 501 (spots_of t ++ s ∷ []) (omega (arith, long, length-append (spots_of t) (s ∷ []), c.if-self-lt501.true)));
-    }
+    let room : length (spots_of t) < 501 = grind (arith, nat_tests) in
+    c.push.ensures.items ∙ sym (take_all 501 (spots_of t ++ s ∷ []) (omega (arith, length-append (spots_of t) (s ∷ []))))
 
-pub returns-else-self-lt501 : goal.returns-else-self-lt501
-returns-else-self-lt501 c =
+pub returns-else-not-is_full-clause-more : goal.returns-else-not-is_full-clause-more
+returns-else-not-is_full-clause-more c =
     let t = c.args.self.now in
     let s = spot c.args.tag c.args.place in
-    let long = length-take-le t.len t.spots (omega (arith, t.room, t.few)) in
-    record {
-      text = refl;
-      more =
-          sym (take_all 501 (spots_of t) (omega (arith, long, t.few)))
-          ∙ sym (take-append-le 501 (spots_of t) (s ∷ []) (omega (arith, long, c.if-self-lt501.false)));
-    }
+    let full : 501 ≤ length (spots_of t) = grind (arith, nat_tests) in
+    sym (take_all 501 (spots_of t) t.few) ∙ sym (take-append-le 501 (spots_of t) (s ∷ []) full)

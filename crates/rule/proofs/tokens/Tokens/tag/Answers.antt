@@ -1,17 +1,11 @@
-use Rattle.std.proofs.Common.{sym, ap, ◌∙◌, arith, length-take-le, get_or-take}
+use Rattle.std.proofs.Common.{◌≡◌, ◌∙◌, rules}
+use Rattle.std.specs.Prelude.{option_map}
 use Rattle.rule.specs.Stored.{spots_of}
-use Rattle.rule.proofs.Spotted.{unread, tag_here, tag_past}
+use Rattle.rule.proofs.Spotted.{tag_next}
 use Rattle.rule.proofs.tokens.Tokens.tag.Goals as goal
 
-pub returns-then-k-self : goal.returns-then-k-self
-returns-then-k-self c =
+pub returns : goal.returns
+returns c =
     let t = c.args.self.now in
-    let long = length-take-le t.len t.spots (omega (arith, t.room, t.few)) in
-    ap (λ s. s.tag) (sym (get_or-take t.len t.spots c.args.k unread c.if-k-self.true))
-    ∙ tag_here t.text.now (spots_of t) c.args.k t.real (omega (arith, long, c.if-k-self.true))
-
-pub returns-else-k-self : goal.returns-else-k-self
-returns-else-k-self c =
-    let t = c.args.self.now in
-    let long = length-take-le t.len t.spots (omega (arith, t.room, t.few)) in
-    tag_past t.text.now (spots_of t) c.args.k (omega (arith, long, c.if-k-self.false))
+    let is : c.map.result ≡ option_map (λ s. s.now.tag) c.get.result = search rules in
+    is ∙ tag_next t.text.now (spots_of t) c.args.k _ (search (rules, c.get.ensures.lookup))

@@ -1,4 +1,4 @@
-use Rattle.std.proofs.Common.{◌≡◌, [], ◌∷◌, None, sym, ap, ◌∙◌, subst, ap₂}
+use Rattle.std.proofs.Common.{◌≡◌, [], ◌∷◌, None, sym, ap, ◌∙◌, subst, length, reverse}
 use Rattle.engine.specs.Books.{is_live}
 use Rattle.engine.specs.Values.{row_of}
 use Rattle.rule.specs.Held.{rule_tree}
@@ -11,16 +11,16 @@ use Rattle.watch.proofs.watch.Watch.new.Goals as goal
 
 pub returns : goal.returns
 returns g c =
-    let w = c.begin.new.self in
-    let h = c.begin.ensures.entered in
+    let w = c.enter.new.self in
+    let h = c.enter.ensures.entered in
     let book = g.E.Engine.book in
     let rule = c.args.rule in
     let b = book c.args.engine in
-    let stands : standing w.state w.table ≡ started (watcher rule ∷ []) b =
-    h.stands ∙ ap₂ (λ n rows. entered (watcher rule ∷ []) [] (row_of None) n rows (b [])) c.new.ensures.count c.new.ensures.rows in
+    let stands : standing w.fault w.rows ≡ started (watcher rule ∷ []) b =
+    h.stands ∙ ap (λ rows. entered (watcher rule ∷ []) [] (row_of None) (length rows) (reverse rows) (b [])) c.new.ensures in
     let same : book_of book w ≡ ledger (watcher rule ∷ []) b =
-    ap (λ u. ledger_from (watcher u ∷ []) (book w.below) (standing w.state w.table)) h.rule
-    ∙ ap (λ x. ledger_from (watcher rule ∷ []) (book x) (standing w.state w.table)) h.below
+    ap (λ u. ledger_from (watcher u ∷ []) (book w.below) (standing w.fault w.rows)) h.rule
+    ∙ ap (λ x. ledger_from (watcher rule ∷ []) (book x) (standing w.fault w.rows)) h.below
     ∙ ap (ledger_from (watcher rule ∷ []) b) stands in
     let rows = ap (λ (l : Ledger). l.rows) stands in
     record {

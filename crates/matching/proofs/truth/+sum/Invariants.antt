@@ -1,4 +1,0 @@
-use Rattle.matching.proofs.truth.+sum.Given as goal
-
-abbrev pub decreases-sum : goal.decreases-sum
-decreases-sum l = l.n
