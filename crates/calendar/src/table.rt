@@ -64,7 +64,7 @@ fn first_month(year: u16) -> usize
     requires { 1 ≤ year }
     ensures { result ≡ 12 * (year - 1) }
 {
-    12 * (year as usize - 1)
+    12 * (usize::from(year) - 1)
 }
 
 // The first day of a year.

@@ -11,6 +11,7 @@ use rule::{Node, Rule};
 use std::fmt;
 use std::fmt::Display;
 
+// What a node is read as. There is one type of parts and not three, which would be twins of one another.
 #[derive(Clone, Copy)]
 pub(crate) enum Kind {
     Pattern,

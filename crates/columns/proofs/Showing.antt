@@ -1,23 +1,17 @@
 -- What the engine over a column file shows.
-use Rattle.std.proofs.Common.{◌≡◌, ℕ, zero, suc, ◌+◌, ◌-◌, ◌<◌, ◌≤◌, true, List, length, ℤ, pos, negsuc, None, Ok, Err, Result, refl, ap, ◌∙◌, arith, rules}
+use Rattle.std.proofs.Common.{◌≡◌, ℕ, zero, suc, ◌+◌, ◌-◌, ◌<◌, ◌≤◌, true, List, length, ℤ, pos, negsuc, None, Ok, Result, refl, ap, ◌∙◌, arith}
 use Rattle.std.proofs.lemmas.Bool.{lt-ltb, le-leb, le-ltb, and_from, and_left, cond-true, cond-false}
 use Rattle.std.proofs.lemmas.Bool.Decides.{nat_tests}
-use Rattle.engine.specs.declared.Values.{Values}
 use Rattle.engine.specs.declared.orders.Order.TheVariants.{Open}
 use Rattle.engine.specs.declared.answers.Refusal.{Refusal}
-use Rattle.engine.specs.declared.answers.ShowError.TheVariants.{NoColumn}
 use Rattle.engine.specs.Values.{value_of}
 use Rattle.engine.specs.Books.{answer, column, shown}
 use Rattle.engine.specs.Mechanisms.{landed, answered, mechanism_answers}
 use Rattle.columns.specs.File.{word, column_count, row_count, offset, allowed, HeaderOk, Sound}
 use Rattle.columns.specs.Rows.{entry, row_values, lead, filing, datum, file_book, opened, IsRow, EachRowShown}
 
--- there are no columns but 1 to 6
-pub no_column : (v : Values) (z : ℤ) → (z ≡ pos 1 → ⊥) → (z ≡ pos 2 → ⊥) → (z ≡ pos 3 → ⊥) → (z ≡ pos 4 → ⊥) → (z ≡ pos 5 → ⊥) → (z ≡ pos 6 → ⊥) → Err NoColumn ≡ column v z
-no_column v z first second third fourth fifth sixth = search rules
-
 -- columns count from 1 on a page, and from 0 in a file
-column_at : (ws : List ℤ) (row c : ℕ) → c < 6 → column (row_values ws row) (pos (c + 1)) ≡ Ok (entry ws c (row - 1))
+pub column_at : (ws : List ℤ) (row c : ℕ) → c < 6 → column (row_values ws row) (pos (c + 1)) ≡ Ok (entry ws c (row - 1))
 column_at ws row zero h = refl
 column_at ws row (suc zero) h = refl
 column_at ws row (suc (suc zero)) h = refl

@@ -14,8 +14,8 @@ mod words;
 
 pub use refusals::FileRefusal;
 
-// An engine over a column file, at a row counted from 1. No invariant says that the words are
-// a column file, so each read tests its place and its value.
+// An engine over a column file, at a row counted from 1. No invariant says that the words are a column file: its book is defined for
+// every list, so each read tests its place and its value in any case.
 #[derive(Clone, Copy, Debug)]
 pub struct Columns<'a> {
     words: &'a [i32],
@@ -40,7 +40,8 @@ impl<'a> Columns<'a> {
         Columns { words, row: 1 }
     }
 
-    // Where an order leads, or why it is refused.
+    // Where an order leads, or why it is refused. One function for this and the reckoned engine would take where an open leads and the
+    // last place as arguments, and be as long.
     fn lead(&self, order: Order) -> Result<u16, Refusal>
         ensures { result ≡ lead_of self.now.words.now self.now.row order }
     {
@@ -67,13 +68,8 @@ impl<'a> Engine for Columns<'a> {
     }
 
     fn show(&self, column: i32) -> Shown {
-        match column {
-            1 => Ok(entry(self.words, 0, self.row)),
-            2 => Ok(entry(self.words, 1, self.row)),
-            3 => Ok(entry(self.words, 2, self.row)),
-            4 => Ok(entry(self.words, 3, self.row)),
-            5 => Ok(entry(self.words, 4, self.row)),
-            6 => Ok(entry(self.words, 5, self.row)),
+        match usize::try_from(column) {
+            Ok(number @ 1..=6) => Ok(entry(self.words, number - 1, self.row)),
             _ => Err(ShowError::NoColumn),
         }
     }

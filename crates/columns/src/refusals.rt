@@ -5,7 +5,7 @@ ghost use Rattle.columns.specs.Numbers.{notice, refusal_text};
 use std::fmt;
 
 // The list ends inside the header or a count is out of range; the offset at a place is bad; the value at a place is bad.
-#[derive(Clone, Copy)]
+#[derive(Clone, Copy, Debug, PartialEq, Eq)]
 pub enum FileRefusal {
     Header,
     Offset(usize),
@@ -37,6 +37,7 @@ impl FileRefusal {
 }
 
 // As editors know it: its number and its place.
+// Like that of a rule's refusal: a trait for two would be longer.
 impl fmt::Display for FileRefusal {
     ghost output = { λ e. Some (refusal_text e) };
 

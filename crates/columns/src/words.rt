@@ -8,7 +8,8 @@ use engine::{Value, value};
 // The word that says that a value is missing.
 const MISSING: i32 = i32::MIN;
 
-// A word as a count or a place. A negative one is taken as 0, which is out of range for every count and offset.
+// A word as a count or a place. A negative one is taken as 0, which is out of range for every count and offset;
+// an option would be tested twice.
 pub fn natural(word: i32) -> usize
     ensures { result ≡ natural_of word }
 {
@@ -22,7 +23,8 @@ pub fn allowed(word: i32) -> bool
     word == MISSING || value(word).is_some()
 }
 
-// The last row that an engine over these words goes to.
+// The last row that an engine over these words goes to; 0 where there is no count, so that no order is taken there. The cast fits:
+// `try_from` would need a branch that never runs.
 pub fn last_row(words: &[i32]) -> u16
     ensures { result ≡ last_row words.now }
 {

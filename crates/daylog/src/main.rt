@@ -12,7 +12,7 @@ const OUTPUT_ROOM: usize = 2_000_000;
 fn main(rt: HostRuntime) -> io::Result<()> {
     let heap = rt.alloc();
     let mut input = Vec::new(heap);
-    // one byte more than an input may have, so that one that is too long is seen to be
+    // one byte more than an input may have, so that one that is too long is seen to be; there is no `From` from `usize` to `u64`
     let _ = rt
         .stdin()
         .take(INPUT_LIMIT as u64 + 1)

@@ -10,12 +10,16 @@ pub(crate) struct Page {
 
 impl fmt::Display for Page {
     fn fmt<W: fmt::Write>(&self, f: &mut fmt::Formatter<W>) -> fmt::Result {
-        let c1 = Cell(self.values.c1);
-        let c2 = Cell(self.values.c2);
-        let c3 = Cell(self.values.c3);
-        let c4 = Cell(self.values.c4);
-        let c5 = Cell(self.values.c5);
-        let c6 = Cell(self.values.c6);
-        write!(f, "{c1} {c2} {c3} {c4} {c5} {c6}")
+        let v = &self.values;
+        write!(
+            f,
+            "{} {} {} {} {} {}",
+            Cell(v.c1),
+            Cell(v.c2),
+            Cell(v.c3),
+            Cell(v.c4),
+            Cell(v.c5),
+            Cell(v.c6)
+        )
     }
 }

@@ -30,7 +30,7 @@ pub fn value(number: i32) -> Value
     }
 }
 
-// The six columns of a page or a row.
+// The six columns of a page or a row, by the names that they have in rules.
 #[derive(Clone, Copy, Debug, Default, PartialEq, Eq)]
 pub struct Values {
     pub c1: Value,

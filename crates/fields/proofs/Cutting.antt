@@ -1,5 +1,6 @@
 -- Lines cut off the input, one by one.
-use Rattle.std.proofs.Common.{◌≡◌, ℕ, suc, ◌<◌, cond, List, [], ◌∷◌, ◌++◌, length, sym, refl, ap, ◌∙◌, subst, arith, ne_eqb}
+use Rattle.std.proofs.Common.{◌≡◌, ℕ, suc, ◌<◌, cond, List, [], ◌∷◌, ◌++◌, length, IfSome, IfNone, Some, None, Option, sym, refl, ap, ◌∙◌, subst, arith, ne_eqb, MatchOption}
+use Rattle.std.proofs.lemmas.List.{nil_from_length}
 use Rattle.fields.specs.Fields.{Lacks, Ended, by_mark, by_end}
 use Rattle.fields.specs.Lines.{longer, lines_of}
 
@@ -21,3 +22,8 @@ ended (byte ∷ next ∷ line) some lacks = first_byte byte (next ∷ line) lack
 pub cut_off : (bytes line rest : List ℕ) → Ended bytes line rest → Lacks 10 line → lines_of bytes ≡ line ∷ lines_of rest
 cut_off bytes line rest (by_mark whole) lacks = ap lines_of whole ∙ marked line rest lacks
 cut_off bytes line rest (by_end some same none) lacks = ap lines_of same ∙ ended line (subst (λ bs. 0 < length bs) same some) lacks ∙ ap (λ bs. line ∷ lines_of bs) (sym none)
+
+-- the same of what `first_line` returns, whose parts are read by `line` and `rest`
+pub next_line_cut : {X : Type 0} (bytes : List ℕ) (line rest : X → List ℕ) (r : Option X) → IfNone r (length bytes ≡ 0) → IfSome r (λ p. Ended bytes (line p) (rest p)) → IfSome r (λ p. Lacks 10 (line p)) → MatchOption r (lines_of bytes ≡ []) (λ p. lines_of bytes ≡ line p ∷ lines_of (rest p))
+next_line_cut bytes line rest None none parted lacks = ap lines_of (nil_from_length bytes none)
+next_line_cut bytes line rest (Some p) none parted lacks = cut_off bytes (line p) (rest p) parted lacks

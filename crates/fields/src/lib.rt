@@ -1,4 +1,4 @@
-// Bytes cut at marks, for the programs that read tables.
+// Lines, marks and decimal numbers in bytes.
 #![tactic(auto)]
 
 ghost use Rattle.std.specs.Prelude.{◌≡◌, ℕ, List, ◌∷◌, ◌<◌, ◌≤◌, length, [], IfSome, IfNone, MatchOption, ◌≢◌, slice_index};
@@ -64,7 +64,7 @@ pub fn first_line(bytes: &[u8]) -> Option<(&[u8], &[u8])>
     }
 }
 
-// The index of the first mark, or the length where there is none.
+// The index of the first mark, or the length where there is none, which is where `split_at` is then to cut.
 pub fn find(bytes: &[u8], mark: u8) -> usize
     ensures within { result ≤ length bytes.now }
     ensures before { (k : ℕ) → k < result → slice_index bytes.now k ≢ mark }

@@ -72,6 +72,7 @@ impl fmt::Display for Term {
 }
 
 // As editors know it: its number and its place.
+// Like that of a file's refusal: a trait for two would be longer.
 impl fmt::Display for Refusal {
     ghost output = { λ e. Some (refusal_text e) };
 

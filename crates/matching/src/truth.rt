@@ -5,31 +5,24 @@ ghost use Rattle.rule.specs.Held.{thing_of};
 ghost use Rattle.matching.specs.Truth.{field_of, name_value, term_value, signed_by, sum_value, related, compared, claim_true};
 ghost use Rattle.matching.specs.Sizes.{Sized};
 
-use engine::{Row, Value};
+use engine::Row;
 use grammar::{Field, Name, Relation, Sign, Term};
 use rule::{Node, Rule};
 
 // None where the value is missing, as in all that follow.
-fn number(value: Value) -> Option<i64>
-    ensures value { result ≡ value }
-    ensures size { Sized 1 result }
-{
-    value.map(i64::from)
-}
-
-fn field(row: &Row, field: Field) -> Option<i64>
-    ensures value { result ≡ field_of row.now field }
-    ensures size { Sized 1 result }
+fn field(row: &Row, field: Field) -> Option<i32>
+    ensures { result ≡ field_of row.now field }
 {
     match field {
-        Field::Op => Some(row.op as i64),
-        Field::Arg => number(row.arg),
-        Field::C1 => number(row.values.c1),
-        Field::C2 => number(row.values.c2),
-        Field::C3 => number(row.values.c3),
-        Field::C4 => number(row.values.c4),
-        Field::C5 => number(row.values.c5),
-        Field::C6 => number(row.values.c6),
+        // an enum's number, for which there is no `From`
+        Field::Op => Some(row.op as i32),
+        Field::Arg => row.arg,
+        Field::C1 => row.values.c1,
+        Field::C2 => row.values.c2,
+        Field::C3 => row.values.c3,
+        Field::C4 => row.values.c4,
+        Field::C5 => row.values.c5,
+        Field::C6 => row.values.c6,
     }
 }
 
@@ -66,7 +59,7 @@ fn compare(relation: Relation, left: Option<i64>, right: Option<i64>) -> bool
         .is_some_and(|(x, y)| related(relation, x, y))
 }
 
-// What a claim of a rule is judged by: a row, and the newest row.
+// What a claim is judged by: the rule that it stands in, a row, and the newest row.
 #[derive(Clone, Copy)]
 pub(crate) struct Context<'a> {
     pub rule: &'a Rule,
@@ -75,9 +68,8 @@ pub(crate) struct Context<'a> {
 }
 
 impl Context<'_> {
-    fn name(&self, name: Name) -> Option<i64>
-        ensures value { result ≡ name_value self.now.newest.now self.now.row.now name }
-        ensures size { Sized 1 result }
+    fn name(&self, name: Name) -> Option<i32>
+        ensures { result ≡ name_value self.now.newest.now self.now.row.now name }
     {
         match name {
             Name::Plain(read) => field(self.row, read),
@@ -91,7 +83,7 @@ impl Context<'_> {
     {
         match term {
             Term::Constant(number) => Some(i64::from(number)),
-            Term::Named(name) => self.name(name),
+            Term::Named(name) => self.name(name).map(i64::from),
         }
     }
 

@@ -32,8 +32,8 @@ fn is_word_part(b: u8) -> bool
     b.is_ascii_alphanumeric()
 }
 
-// How many spaces stand at the front. This and the two functions below are not one with the class as a parameter: its contract, over what
-// any closure answers, would be longer than the three lines that it is for.
+// How many spaces stand at the front. This and the two functions below are each one call of the library, at a test of its own: one
+// function over any closure would have a longer contract, and one over an enum of tests would switch on it.
 fn spaces(bytes: &[u8]) -> usize
     ensures value { result ≡ prefix_len is_space bytes.now }
     ensures within { result ≤ length bytes.now }

@@ -23,7 +23,7 @@ pub(crate) fn few(tokens: &Tokens) -> Result<(), Refusal>
     Ok(())
 }
 
-// A `(` is too deep with which `(` less `)` so far exceeds 16.
+// A `(` is too deep with which `(` less `)` so far exceeds 16. One walk counts both and finds that token.
 pub(crate) fn shallow(tokens: &Tokens) -> Result<(), Refusal>
     ensures { MatchResult result (λ _. Shallow (symbols_of tokens.now)) (λ e. Caused TooDeep tokens.now (FirstDeep (symbols_of tokens.now)) e) }
 {
@@ -44,7 +44,7 @@ pub(crate) fn shallow(tokens: &Tokens) -> Result<(), Refusal>
     Ok(())
 }
 
-// How many claims there are; the 61st `[` is too many.
+// How many claims there are; the 61st `[` is too many. One walk counts them and finds that one, so they are not counted by a chain.
 pub(crate) fn uncrowded(tokens: &Tokens) -> Result<u8, Refusal>
     ensures { MatchResult result (λ n. (n ≡ count claiming (symbols_of tokens.now)) × (n ≤ claim_limit)) (λ e. Caused TooManyClaims tokens.now (Crowding (symbols_of tokens.now)) e) }
 {

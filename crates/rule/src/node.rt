@@ -1,7 +1,7 @@
 // The nodes of a rule's tree.
 use grammar::{Name, Relation, Sign, Term};
 
-// A part of a node is the number of another node, below its own.
+// A part of a node is the number of another node, below its own: it is numbered and not boxed, since nothing here allocates.
 #[derive(Clone, Copy, Debug, Default, PartialEq, Eq)]
 pub enum Node {
     // patterns

@@ -40,7 +40,8 @@ fn keyword(word: &[u8]) -> Option<Tag>
     }
 }
 
-// The number that digits are, unless it is over 1,000,000,000.
+// The number that digits are, unless it is over 1,000,000,000. By hand, since `parse` would ask for a text that is UTF-8 and has a digit.
+// The cast fits; `try_from` would need a branch that never runs.
 fn value(digits: &[u8]) -> Option<u32>
     ensures { Valued digits.now result }
 {
@@ -54,7 +55,8 @@ fn value(digits: &[u8]) -> Option<u32>
     Some(sum as u32)
 }
 
-// The number whose digits stand at a place; 0 if it is over 1,000,000,000.
+// The number whose digits stand at a place; 0 if it is over 1,000,000,000, and then `tag_of` has refused the text, so an option would
+// never be none where this is called.
 pub(crate) fn number_at(text: &[u8], place: usize) -> u32
     ensures { result ≡ number_at text.now place }
 {

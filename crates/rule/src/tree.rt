@@ -28,7 +28,7 @@ impl Tree {
         }
     }
 
-    // The entry n, or that of an empty pattern where there is none.
+    // The entry n, or that of an empty pattern where there is none: it is no option, since what a node stands for is a total function.
     fn entry(&self, n: u16) -> Entry
         ensures node { result.node ≡ node_at (nodes_of self.now) n }
         ensures summary { result.summary ≡ summary_at (nodes_of self.now) n }
@@ -48,7 +48,7 @@ impl Tree {
         self.entry(n).node
     }
 
-    // The summary of the pattern at the node n.
+    // The summary of the pattern at the node n; that of an empty pattern where there is none, as the definition has it.
     pub(crate) fn summary(&self, n: u16) -> Summary
         ensures { result ≡ summary_at (nodes_of self.now) n }
     {
@@ -68,7 +68,8 @@ impl Tree {
         }
     }
 
-    // One node more, whose parts are there.
+    // One node more, whose parts are there. That they are depends on the node's number, so no type of a node can say it. The
+    // cast fits; `try_from` would need a branch that never runs.
     pub(crate) fn add(&mut self, node: Node) -> u16
         requires room { length (nodes_of self.old) < 500 }
         requires parts { PartsBelow (length (nodes_of self.old)) node }

@@ -3,7 +3,8 @@ ghost use Rattle.std.specs.Prelude.{[], ◌∷◌, decimal};
 ghost use Rattle.std.specs.Fmt.{signed_decimal};
 ghost use Rattle.script.specs.Output.{Appended};
 
-// Lent memory, and the place in it where the next byte goes. What the memory has no room for is not written.
+// Memory that is lent, since nothing here allocates, and the place in it where the next byte goes. What the memory has no room for is
+// not written.
 // `fmt::Write` is no plainer here: by its contract a write may fail, and none of these can.
 #[derive(Drop)]
 pub struct Output<'a> {
@@ -29,7 +30,8 @@ impl Output<'_> {
         }
     }
 
-    // A number in decimal: what is before its last digit, and then that digit.
+    // A number in decimal: what is before its last digit, and then that digit, which fits a byte: `try_from`
+    // would need a branch that never runs.
     pub(crate) fn put_number(&mut self, n: u64)
         ensures { Appended self.old (decimal n) self.new }
     {

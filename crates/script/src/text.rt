@@ -35,7 +35,7 @@ impl Output<'_> {
         }
     }
 
-    // What follows the number of an answer: its fault, or else the row and the columns if the number is 0.
+    // What follows the number of an answer: its fault, or else the row and the columns if the number is 0, by which the definition goes.
     fn put_detail(&mut self, row: u32, first: Reply, shown: &[Reply])
         ensures { Appended self.old (detail_text row (message first).number (message first).fault (map message shown.now)) self.new }
     {
@@ -58,7 +58,8 @@ impl Output<'_> {
         self.put_byte(b'\n');
     }
 
-    // The line of a rule that is refused: its line, the number of the refusal and the place in the rule's text.
+    // The line of a rule that is refused: its line, the number of the refusal and the place in the rule's text. There is no `From` from
+    // `usize` to `u64`.
     pub fn put_rule_refusal(&mut self, line: usize, number: u8, place: usize)
         ensures { Appended self.old (rule_text line number place) self.new }
     {

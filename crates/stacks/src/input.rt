@@ -1,4 +1,6 @@
 // The cases that the lines of the input hold.
+ghost use Rattle.std.specs.Iterator.{IsFinite};
+
 use crate::halting::Halting;
 use engine::{Call, Fault, Order};
 use std::alloc::{AllocError, Global};
@@ -37,7 +39,7 @@ impl<'a> Case<'a> {
         };
         let (calls, watches) = rest.split_once(';').unwrap_or((rest, ""));
         let ground = ground_of(heap, engine)?;
-        let calls = calls_of(heap, calls)?;
+        let calls = all(heap, calls.split_whitespace(), call)?;
         let settings = settings_of(heap, watches)?;
         match (ground, calls, settings) {
             (Some(ground), Some(calls), Some(settings)) => Ok(Some(Case {
@@ -57,7 +59,7 @@ fn ground_of(heap: Global, text: &str) -> Result<Option<Ground>, AllocError> {
     match name {
         "calendar" => Ok(Some(Ground::Calendar)),
         "halting" => Ok(halting(rest)),
-        "file" => match numbers(heap, rest)? {
+        "file" => match all(heap, rest.split_whitespace(), |word| word.parse().ok())? {
             Some(words) => Ok(Some(Ground::File(words))),
             None => Ok(None),
         },
@@ -77,28 +79,24 @@ fn halting(text: &str) -> Option<Ground> {
     Some(Ground::Halting(Halting::new(limit.parse().ok()?, fault)))
 }
 
-// Signed numbers in decimal, with blanks between them.
-fn numbers(heap: Global, text: &str) -> Result<Option<Vec<i32>>, AllocError> {
-    let mut numbers = Vec::new(heap);
-    for word in text.split_whitespace() {
-        let Ok(number) = word.parse() else {
+// What the words are read as, if each can be read.
+fn all<'a, T: Drop, I: Iterator<Item = &'a str> + Drop, F: Fn(&'a str) -> Option<T> + Drop>(
+    heap: Global,
+    words: I,
+    read: F,
+) -> Result<Option<Vec<T>>, AllocError>
+    requires can { I.can_next words }
+    requires finite { IsFinite (I.remaining words) }
+    requires callable { F.IsAlwaysCallable read }
+{
+    let mut things = Vec::new(heap);
+    for word in words {
+        let Some(thing) = read(word) else {
             return Ok(None);
         };
-        numbers.push(number)?;
+        things.push(thing)?;
     }
-    Ok(Some(numbers))
-}
-
-// Calls, with blanks between them.
-fn calls_of(heap: Global, text: &str) -> Result<Option<Vec<Call>>, AllocError> {
-    let mut calls = Vec::new(heap);
-    for word in text.split_whitespace() {
-        let Some(call) = call(word) else {
-            return Ok(None);
-        };
-        calls.push(call)?;
-    }
-    Ok(Some(calls))
+    Ok(Some(things))
 }
 
 // A call: `c` and a column, an order that is given, or `?` and an order that is asked about.
@@ -125,20 +123,11 @@ fn order(word: &str) -> Option<Order> {
 
 // Watches, with a `;` between them: each is a number, a blank and the text of a rule.
 fn settings_of<'a>(heap: Global, text: &'a str) -> Result<Option<Vec<Setting<'a>>>, AllocError> {
-    let mut settings = Vec::new(heap);
     if text.is_empty() {
-        return Ok(Some(settings));
+        return Ok(Some(Vec::new(heap)));
     }
-    for watch in text.split(';') {
-        let Some(setting) = setting_of(watch) else {
-            return Ok(None);
-        };
-        if settings.len() == MOST_WATCHES {
-            return Ok(None);
-        }
-        settings.push(setting)?;
-    }
-    Ok(Some(settings))
+    let settings = all(heap, text.split(';'), setting_of)?;
+    Ok(settings.filter(|settings| settings.len() <= MOST_WATCHES))
 }
 
 fn setting_of<'a>(watch: &'a str) -> Option<Setting<'a>> {

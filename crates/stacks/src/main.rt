@@ -16,7 +16,7 @@ use shown::Replies;
 use std::io;
 use std::io::Read;
 
-// More bytes of input than this are not looked at. A crate for the lines that three programs read it with would be no plainer.
+// More bytes of input than this are not looked at. Three programs have these lines; a crate for them would have more lines than they are.
 const LIMIT: u64 = 1_000_000;
 
 fn main(rt: HostRuntime) -> io::Result<()> {

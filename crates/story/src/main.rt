@@ -4,7 +4,7 @@
 use columns::Columns;
 use engine::{Call, Cell, Engine, Fault, Order, Reply};
 use rule::Rule;
-use std::{fmt, io};
+use std::io;
 use watch::{Watch, run};
 
 // Five columns of five rows. Columns 2 and 4 are all ones here, so they share their words. Month 3 has 29 days and should have 30,

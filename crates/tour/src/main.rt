@@ -56,7 +56,7 @@ fn print_read(rt: &impl Print, rule: &Rule) -> io::Result<()> {
         thing: "token",
     };
     let claims = Count {
-        number: rule.claims() as u16,
+        number: u16::from(rule.claims()),
         thing: "claim",
     };
     println!(rt; "  read: {tokens}, {claims}")?;

@@ -22,6 +22,7 @@ fn send<P: Engine, const N: usize>(pile: &mut P, calls: &[Call; N]) -> [Reply; N
     ensures told { result ≡ replies_of (P.Engine.book pile.old) calls.now }
     ensures moved { P.Engine.book pile.new ≡ book_after_all (P.Engine.book pile.old) calls.now }
 {
+    // what a place holds before its reply
     let mut replies = [Reply::ToGive(Ok(())); N];
     run(pile, calls, &mut replies);
     replies
@@ -41,6 +42,7 @@ fn put_answer<P: Engine>(pile: &mut P, line: &[u8], row: u32, output: &mut Outpu
         return row;
     };
     let [reply] = send(pile, &[Call::Give(order)]);
+    // by the number, as the definition counts
     let row = row + u32::from(reply.number() == 0);
     output.put_line(row, reply, &send(pile, &page()));
     row

@@ -24,6 +24,7 @@ fn put_transcript(input: &[u8], output: &mut Output<'_>)
     let mut lines = Lines::new(input);
     let first = lines.next().unwrap_or(b"");
     let second = lines.next().unwrap_or(b"");
+    // one function for both rules would need a contract, on what it writes of a refusal, that is longer than these lines
     let mut inner = Rule::new();
     if let Err(refusal) = inner.read(1, first) {
         output.put_rule_refusal(1, refusal.number(), refusal.place());

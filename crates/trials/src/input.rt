@@ -1,7 +1,7 @@
 // The cases that the lines of the input hold.
 use engine::{Op, Row, Value, Values};
 use fields::{decimal, find};
-use std::alloc::AllocError;
+use std::alloc::{AllocError, Global};
 
 // More rows than this are no case.
 const LIMIT: usize = 400;
@@ -24,18 +24,19 @@ impl<'a> Case<'a> {
         Case { text, whole, rows }
     }
 
-    // Adds the rows of the case to those at hand. Tells whether they are all rows, and not too many.
-    pub(crate) fn put_rows(&self, rows: &mut Vec<Row>) -> Result<bool, AllocError> {
+    // The rows of the case, if they are all rows, and not too many.
+    pub(crate) fn rows(&self, heap: Global) -> Result<Option<Vec<Row>>, AllocError> {
+        let mut rows = Vec::new(heap);
         for part in self.rows.split(|byte| *byte == b';').skip(1) {
             let Some(row) = row(part) else {
-                return Ok(false);
+                return Ok(None);
             };
             if rows.len() == LIMIT {
-                return Ok(false);
+                return Ok(None);
             }
             rows.push(row)?;
         }
-        Ok(true)
+        Ok(Some(rows))
     }
 }
 

@@ -14,7 +14,7 @@ use std::alloc::{AllocError, Global};
 use std::io;
 use std::io::Read;
 
-// More bytes of input than this are not looked at. A crate for the lines that three programs read it with would be no plainer.
+// More bytes of input than this are not looked at. Three programs have these lines; a crate for them would have more lines than they are.
 const LIMIT: u64 = 1_000_000;
 
 fn main(rt: HostRuntime) -> io::Result<()> {
@@ -35,10 +35,9 @@ fn answer_all(rt: &HostRuntime, input: &[u8]) -> io::Result<()> {
 // Answers a line.
 fn answer(rt: &HostRuntime, rule: &mut Rule, line: &[u8]) -> io::Result<()> {
     let case = Case::of(line);
-    let mut rows = Vec::new(rt.alloc());
-    if !case.put_rows(&mut rows)? {
+    let Some(rows) = case.rows(rt.alloc())? else {
         return println!(rt; "bad line");
-    }
+    };
     if let Err(refusal) = rule.read(1, case.text) {
         return println!(rt; "refused {refusal}");
     }
@@ -53,6 +52,7 @@ fn answer(rt: &HostRuntime, rule: &mut Rule, line: &[u8]) -> io::Result<()> {
 // The letters of all beginnings.
 fn letters(heap: Global, rule: &Rule, rows: &[Row]) -> Result<String, AllocError> {
     let mut letters = String::new(heap);
+    // k is how many rows are tried, and the index of none
     for k in 0..=rows.len() {
         letters.push(letter(rule, &rows[..k]))?;
     }

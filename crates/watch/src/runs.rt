@@ -25,14 +25,16 @@ pub fn run<P: Engine>(pile: &mut P, calls: &[Call], replies: &mut [Reply]) -> us
     ensures piled { AsPile (P.Engine.book pile.old) (take result calls.now) (take result replies.new) }
 {
     let count = calls.len().min(replies.len());
-    // the reply is reached by its index: of what `iter_mut` under `zip` has written nothing would be known
+    // The caller lends the places for replies, since nothing here allocates; so they stand beside the calls.
+    // The reply is reached by its index: of what `iter_mut` under `zip` has written nothing would be known.
     for (i, call) in calls[..count].iter().enumerate() {
         replies[i] = send(pile, *call);
     }
     count
 }
 
-// Sends the same calls to two piles, as many as there is room for the replies of both, and says how many.
+// Sends the same calls to two piles, as many as there is room for the replies of both, and says how many. The places for replies are
+// lent, as in `run`, since nothing here allocates.
 pub fn run_both<P: Engine, Q: Engine>(
     pile: &mut P,
     other: &mut Q,

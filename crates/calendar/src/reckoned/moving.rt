@@ -30,12 +30,14 @@ impl Reckoned {
         let month = month_of(starts, day);
         Reckoned {
             day,
+            // there are 360 months, so it fits; `try_from` would need a branch that never runs
             month: month as u16,
             day_of_month: day.number + 1 - starts[month],
         }
     }
 
-    // The day to which an order leads.
+    // The day to which an order leads. One function for this and the column engine would take where an open leads and the last place as
+    // arguments, and be as long.
     fn leads(&self, order: Order) -> Result<Day, Refusal>
         ensures { numbered result ≡ reckoning.leads self.now.day.number order }
     {

@@ -40,6 +40,7 @@ impl<'a> Reader<'a> {
         Ok(piece)
     }
 
+    // Why this is not one function with `both`: see there.
     #[cycle(patterns)]
     pub(super) fn chain(&mut self) -> Result<u16, Refusal>
         ensures { Reads as_pattern ChainEnds ChainFails self.old self.new result }
@@ -52,6 +53,7 @@ impl<'a> Reader<'a> {
         Ok(left)
     }
 
+    // Why this is not one function with `both`: see there.
     #[cycle(patterns)]
     pub(super) fn rule(&mut self) -> Result<u16, Refusal>
         ensures { Reads as_pattern RuleEnds RuleFails self.old self.new result }

@@ -42,7 +42,7 @@ impl Rule {
         self.root
     }
 
-    // The node n; an empty pattern where there is none. Its parts have lower numbers.
+    // The node n; an empty pattern where there is none, as the definition has it. Its parts have lower numbers.
     pub fn node(&self, n: u16) -> Node
         ensures value { result ≡ node_of self.now n }
         ensures meaning { thing_of self.now n ≡ meaning self.now result }
@@ -51,7 +51,7 @@ impl Rule {
         self.tree.node(n)
     }
 
-    // The summary of the pattern at the node n; that of an empty pattern where no pattern is.
+    // The summary of the pattern at the node n; that of an empty pattern where no pattern is, as the definition has it.
     pub fn summary(&self, n: u16) -> Summary
         ensures { result ≡ summary_of self.now n }
     {

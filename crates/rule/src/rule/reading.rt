@@ -69,6 +69,7 @@ impl Rule {
             watch,
             tree,
             root,
+            // there are at most 500, so it fits; `try_from` would need a branch that never runs
             tokens: tokens.len() as u16,
             claims,
         })

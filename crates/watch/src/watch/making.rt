@@ -49,7 +49,7 @@ impl<E: Engine> Watch<E> {
         Err(OrderError::Halted(fault))
     }
 
-    // Comes to the page below, to which an order led, if it is not the first: keeps its row and tries the rule, or halts with the
+    // Comes to the page below, the first one or the one that an order led to: keeps its row and tries the rule, or halts with the
     // engine below.
     pub(crate) fn enter(&mut self, order: Option<Order>) -> Answer
         requires live { self.old.fault ≡ None }
@@ -60,6 +60,7 @@ impl<E: Engine> Watch<E> {
         match read(&self.below) {
             Err(fault) => self.halt(raised(fault)),
             Ok(values) => {
+                // there are at most 400, so it fits; `try_from` would need a branch that never runs
                 let row = self.rows.len() as u32;
                 let op = order.map_or(Op::First, Order::op);
                 let arg = order.and_then(Order::arg);

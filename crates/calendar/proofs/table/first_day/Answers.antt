@@ -6,9 +6,6 @@ use Rattle.calendar.proofs.table.first_day.Goals as goal
 pub bounds-starts-first_month : goal.bounds-starts-first_month
 bounds-starts-first_month c = omega (arith, c.month_starts-starts.ensures.size, count)
 
-pub returns : goal.returns
-returns c = year_start _ c.month_starts-starts.ensures c.args.year c.first_month.result c.requires.first c.requires.last c.first_month.ensures
-
 pub invariant_of-result : goal.invariant_of-result
 invariant_of-result c =
     let start = year_start _ c.month_starts-starts.ensures c.args.year c.first_month.result c.requires.first c.requires.last c.first_month.ensures in

@@ -1,6 +1,6 @@
-use Rattle.std.proofs.Common.{◌≡◌, ◌<◌, min, length, take, drop, sym, ap, ◌∙◌, arith, length-take}
+use Rattle.std.proofs.Common.{◌≡◌, ◌<◌, min, length, take, sym, ap, ◌∙◌, arith, length-take}
 use Rattle.std.proofs.lemmas.List.{get_or-take}
-use Rattle.engine.specs.Calls.{reply, replies, book_after, book_after_all}
+use Rattle.engine.specs.Calls.{reply, replies, book_after}
 use Rattle.watch.proofs.Sending.{told_more, moved_more, rest_more, as_pile}
 use Rattle.watch.proofs.runs.run.Goals as goal
 
@@ -20,18 +20,12 @@ loop-i-preserved g c =
       moved_more b cs i _ within d c.loop-i.invariant.2 (g.P.Engine.book c.send.new.pile) (c.send.ensures.moved ∙ ap (book_after d) call),
     )
 
-pub returns : goal.returns
-returns g c =
+pub returns-clause-piled : goal.returns-clause-piled
+returns-clause-piled g c =
     let b = g.P.Engine.book c.args.pile.now in
     let cs = c.args.calls.now in
     let n = c.min-count.result in
     let rs = c.loop-i.replies in
     let size : length (take n cs) ≡ min n (length cs) = length-take n cs in
     let at : c.loop-i.i ≡ n = omega (arith, size) in
-    let told : take n rs ≡ replies b (take n cs) = ap (λ k. take k rs) (sym at) ∙ c.loop-i.invariant.0 ∙ ap (λ k. replies b (take k cs)) at in
-    record {
-      count = omega arith;
-      answered = record { told = told; rest = ap (λ k. drop k rs) (sym at) ∙ c.loop-i.invariant.1 ∙ ap (λ k. drop k c.args.replies.now) at };
-      moved = c.loop-i.invariant.2 ∙ ap (λ k. book_after_all b (take k cs)) at;
-      piled = as_pile (take n cs) (take n rs) b told;
-    }
+    as_pile (take n cs) (take n rs) b (ap (λ k. take k rs) (sym at) ∙ c.loop-i.invariant.0 ∙ ap (λ k. replies b (take k cs)) at)

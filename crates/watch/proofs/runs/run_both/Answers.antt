@@ -1,10 +1,9 @@
-use Rattle.std.proofs.Common.{◌≡◌, min, refl, length, take, ap, ◌∙◌, arith, length-take}
-use Rattle.engine.specs.Calls.{book_after_all}
-use Rattle.watch.proofs.Sending.{same_calls, all_answered, as_pair}
+use Rattle.std.proofs.Common.{◌≡◌, min, refl, length, take, arith, length-take}
+use Rattle.watch.proofs.Sending.{all_answered, as_pair}
 use Rattle.watch.proofs.runs.run_both.Goals as goal
 
-pub returns : goal.returns
-returns g c =
+pub returns-clause-paired : goal.returns-clause-paired
+returns-clause-paired g c =
     let p = g.P.Engine.book c.args.pile.now in
     let q = g.Q.Engine.book c.args.other.now in
     let cs = c.args.calls.now in
@@ -14,11 +13,4 @@ returns g c =
     let m₂ : c.run-2.result ≡ n = omega (arith, size) in
     let a = all_answered cs n c.run.result n m refl p c.args.replies.now c.run.new.replies c.run.ensures.answered in
     let a₂ = all_answered cs n c.run-2.result n m₂ refl q c.args.others.now c.run-2.new.replies c.run-2.ensures.answered in
-    record {
-      count = omega arith;
-      answered = a;
-      other_answered = a₂;
-      moved = c.run.ensures.moved ∙ ap (book_after_all p) (same_calls cs n c.run.result n m refl);
-      other_moved = c.run-2.ensures.moved ∙ ap (book_after_all q) (same_calls cs n c.run-2.result n m₂ refl);
-      paired = as_pair (take n cs) (take n c.run.new.replies) (take n c.run-2.new.replies) p q a.told a₂.told;
-    }
+    as_pair (take n cs) (take n c.run.new.replies) (take n c.run-2.new.replies) p q a.told a₂.told

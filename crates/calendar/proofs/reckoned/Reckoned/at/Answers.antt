@@ -6,9 +6,6 @@ use Rattle.calendar.proofs.reckoned.Reckoned.at.Goals as goal
 pub bounds-starts-month : goal.bounds-starts-month
 bounds-starts-month c = omega (arith, c.month_starts-starts.ensures.size, count)
 
-pub overflow_sub-result : goal.overflow_sub-result
-overflow_sub-result c = omega (arith, c.month_starts-starts.ensures.each c.month_of-month.result (omega (arith, count)))
-
 pub invariant_of-result : goal.invariant_of-result
 invariant_of-result c =
     let falls = c.month_of-month.ensures in

@@ -5,9 +5,6 @@ use Rattle.rule.specs.Spots.{spot}
 use Rattle.rule.specs.Stored.{spots_of}
 use Rattle.rule.proofs.tokens.Tokens.push.Goals as goal
 
-pub invariant_of-self : goal.invariant_of-self
-invariant_of-self c = grind (arith, nat_tests)
-
 pub returns-then-not-is_full-clause-more : goal.returns-then-not-is_full-clause-more
 returns-then-not-is_full-clause-more c =
     let t = c.args.self.now in
