@@ -19,6 +19,7 @@ use Rattle.watch.specs.Tables.{Table, count_of, rows_of}
 abbrev pub watcher : Rule → Watcher
 watcher u = carrying (watch_of u) (rule_tree u)
 
+-- where a watch stands, as the ledger of that watch alone: by the fault that it has halted with, if any, and the rows that it keeps
 abbrev pub standing : Option Fault → Table → Ledger
 standing f t = record { taken = []; count = count_of t; rows = rows_of t; fault = f }
 
