@@ -14,14 +14,8 @@ use Rattle.matching.specs.Passing.{tested, pattern_at, Shifted}
 use Rattle.matching.proofs.Bitwise.{bit_of_or}
 use Rattle.matching.proofs.Summed.{nullable_is, claims_are, last_is}
 
--- what d is after `a && b` and after `a || b`, by the value of a
+-- what d is after `a || b`, by the value of a
 module _ (b : Bool) {a d : Bool} where
-  pub and_first : d ≡ a → a ≡ false → d ≡ (a && b)
-  and_first p q = p ∙ q ∙ sym (ap (λ x. x && b) q)
-
-  pub and_second : d ≡ b → a ≡ true → d ≡ (a && b)
-  and_second p q = p ∙ sym (ap (λ x. x && b) q)
-
   pub or_first : d ≡ a → a ≡ true → d ≡ (a || b)
   or_first p q = p ∙ q ∙ sym (ap (λ x. x || b) q)
 

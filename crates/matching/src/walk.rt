@@ -1,5 +1,8 @@
 // Marks stand on the claims of a rule that have just taken a row. A walk over the tree moves them past one more row.
-ghost use Rattle.std.specs.Prelude.{◌≡◌, ◌+◌, ◌<◌, ◌≤◌, reverse};
+ghost use Rattle.std.specs.Prelude.{◌≡◌, ◌+◌, ◌-◌, ◌<◌, ◌≤◌, ◌&&◌, ◌||◌, reverse, length, bit_or};
+ghost use Rattle.std.specs.Iterator.Adapters.{rev_source};
+ghost use Rattle.std.specs.Slice.{IsGetResult};
+ghost use Rattle.std.specs.Slice.Iter.{iter_rest};
 ghost use Rattle.grammar.specs.Tree.{claims_in};
 ghost use Rattle.rule.specs.Summaries.{after};
 ghost use Rattle.rule.specs.Held.{rule_tree};
@@ -9,12 +12,42 @@ ghost use Rattle.matching.specs.Passing.{Answered, pattern_at, Marked, Shifted};
 use crate::truth::Context;
 use engine::Row;
 use rule::{Node, Rule, Summary};
+use std::iter::Rev;
+use std::slice::Iter;
 
 // Whether a mark stands at the end of a pattern whose claims are counted after so many others.
 fn left(pattern: Summary, others: u8, marks: u64) -> bool
     ensures { result ≡ meets marks (after others pattern.last) }
 {
     marks & pattern.last_after(others) != 0
+}
+
+// Whether what follows a pattern is entered, if the pattern is entered so.
+fn onward(pattern: Summary, others: u8, entering: bool, marks: u64) -> bool
+    ensures { result ≡ (entering && pattern.nullable || meets marks (after others pattern.last)) }
+{
+    entering && pattern.nullable || left(pattern, others, marks)
+}
+
+// The marks of two patterns side by side, or one after the other.
+fn joined(one: u64, other: u64) -> u64
+    ensures { result ≡ bit_or one other }
+{
+    one | other
+}
+
+// The newest row, if there is one.
+fn newest(rows: &[Row]) -> Option<&Row>
+    ensures { IsGetResult rows.now 0 (length rows.now - 1) result }
+{
+    rows.last()
+}
+
+// The rows, newest first: none is left out.
+fn newest_first(rows: &[Row]) -> Rev<Iter<'_, Row>>
+    ensures { iter_rest (rev_source result) ≡ rows.now }
+{
+    rows.iter().rev()
 }
 
 impl Context<'_> {
@@ -41,15 +74,15 @@ impl Context<'_> {
                 let before = others + self.rule.summary(a).claims;
                 let one = self.shift(a, others, entering, marks);
                 let other = self.shift(b, before, entering, marks);
-                one | other
+                joined(one, other)
             }
             Node::Sequence(a, b) => {
                 let first = self.rule.summary(a);
                 let before = others + first.claims;
-                let entered = entering && first.nullable || left(first, others, marks);
+                let entered = onward(first, others, entering, marks);
                 let front = self.shift(a, others, entering, marks);
                 let back = self.shift(b, before, entered, marks);
-                front | back
+                joined(front, back)
             }
             Node::Star(a) => {
                 let entered = entering || left(self.rule.summary(a), others, marks);
@@ -69,12 +102,12 @@ pub fn passes(rule: &Rule, rows: &[Row]) -> bool
     if whole.nullable {
         return true;
     }
-    let Some(newest) = rows.last() else {
+    let Some(newest) = newest(rows) else {
         return false;
     };
     let mut marks: u64 = 0;
     let mut entering = true;
-    for row in rows.iter().rev() {
+    for row in newest_first(rows) {
         let context = Context { rule, newest, row };
         marks = context.shift(root, 0, entering, marks);
         entering = false;

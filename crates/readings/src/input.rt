@@ -12,9 +12,10 @@ impl<'a> Case<'a> {
     // The case of a line: a decimal number, a space and the text, which may be empty.
     pub(crate) fn of(line: &'a [u8]) -> Option<Case<'a>> {
         let mut parts = line.splitn(2, |byte| *byte == b' ');
+        let (number, text) = (parts.next()?, parts.next()?);
         Some(Case {
-            watch: decimal(parts.next()?)?,
-            text: parts.next()?,
+            watch: decimal(number)?,
+            text,
         })
     }
 }

@@ -1,5 +1,5 @@
 -- From the stored tokens to the text's: why a text is refused, or what is held of it.
-use Rattle.std.proofs.Common.{◌≡◌, ℕ, ◌<◌, ◌≤◌, min, List, [], ◌∷◌, length, get_or, ℤ, pos, ◌≤ℤ◌, Ok, Err, sym, refl, ap, ◌∙◌, subst, arith, leb→le, length-take, take_all, get_or-take}
+use Rattle.std.proofs.Common.{◌≡◌, ℕ, ◌<◌, ◌≤◌, min, List, [], ◌∷◌, length, get_or, ℤ, pos, ◌≤ℤ◌, Ok, Err, Result, sym, refl, ap, ◌∙◌, subst, arith, leb→le, length-take, take_all, get_or-take}
 use Rattle.std.proofs.lemmas.List.{get_or_default}
 use Rattle.grammar.specs.declared.Refusal.{Refusal}
 use Rattle.grammar.specs.declared.Refusal.TheVariants.{WatchNumber, TextTooLong, TooManyTokens, TooDeep, TooManyClaims, Unexpected}
@@ -14,6 +14,7 @@ use Rattle.rule.specs.declared.rule.Rule.{Rule as Place}
 use Rattle.rule.specs.declared.tokens.Tokens.{Tokens}
 use Rattle.rule.specs.Stored.{symbols_of, place_in, Stores, Stops, Caused}
 use Rattle.rule.specs.Held.{rule_tree, Holds, Parsed}
+use Rattle.rule.specs.Finished.{RuleOf}
 
 symbols_length : (ts : List Placed) → length (symbols ts) ≡ length ts
 symbols_length [] = refl
@@ -114,3 +115,10 @@ module _ {n : ℤ} {text : List ℕ} where
 
   pub refused_parsed : (e : Refusal) → Refused n text e → Parsed n text (Err e)
   refused_parsed e q = (q, λ u ts x a. absurd (never_both n text ts x e a q), λ f p. ap Err (one_refusal n text e f q p))
+
+  -- what is made of the tokens is what parsing makes of the text
+  module _ (w : Numbered n) (l : length text ≤ text_limit) {t : Tokens} (s : Stores text t) (f : length (symbols_of t) ≤ token_limit)
+      (d : Shallow (symbols_of t)) (c : count claiming (symbols_of t) ≤ claim_limit) where
+    pub made_parsed : (r : Result Place Refusal) (k : ℕ) → pos k ≡ n → RuleOf k t r → Parsed n text r
+    made_parsed (Ok u) k e h = read_parsed u (held w l s f d c u h.2.derived (ap pos h.0 ∙ e) h.1)
+    made_parsed (Err x) k e h = refused_parsed x (bad_refused w l s f d c h)

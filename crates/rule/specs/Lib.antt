@@ -8,3 +8,4 @@ pub mod Spots
 pub mod Stored
 pub mod Readers
 pub mod Held
+pub mod Finished

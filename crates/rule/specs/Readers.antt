@@ -257,6 +257,6 @@ pub record WholeIs (ts : List Symbol) (new : Tree) (root : ℕ) : Type 0 where
   pub there : root < length (nodes_of new)
   pub derived : Rule ts (pattern (nodes_of new) root)
 
-abbrev pub WholeRead : Tokens → Result (Tree × ℕ) Refusal → Type 0
-WholeRead t (Ok x) = WholeIs (symbols_of t) x.0 x.1
-WholeRead t (Err e) = Faulted t (FirstBad (symbols_of t)) e
+abbrev pub WholeRead : Tokens → Reader → Result ℕ Refusal → Type 0
+WholeRead t new (Ok root) = WholeIs (symbols_of t) new.tree root
+WholeRead t new (Err e) = Faulted t (FirstBad (symbols_of t)) e

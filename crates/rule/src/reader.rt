@@ -16,7 +16,7 @@ mod sums;
 pub(crate) struct Reader<'a> {
     tokens: &'a Tokens<'a>,
     at: usize,
-    tree: Tree,
+    pub(crate) tree: Tree,
     ghost within: { at ≤ length (symbols_of tokens.now) },
     ghost short: { length (symbols_of tokens.now) ≤ 500 },
     ghost room: { length (nodes_of tree) + length (symbols_of tokens.now) ≤ 500 + at },

@@ -36,7 +36,7 @@ impl Tree {
         self.entries
             .get(usize::from(n))
             .copied()
-            .unwrap_or_default()
+            .unwrap_or_else(Entry::empty)
     }
 
     // The node n, or an empty pattern where there is none.

@@ -126,7 +126,8 @@ fn settings_of<'a>(heap: Global, text: &'a str) -> Result<Option<Vec<Setting<'a>
     if text.is_empty() {
         return Ok(Some(Vec::new(heap)));
     }
-    let settings = all(heap, text.split(';'), setting_of)?;
+    // one more than a case may have is enough to see that there are too many
+    let settings = all(heap, text.split(';').take(MOST_WATCHES + 1), setting_of)?;
     Ok(settings.filter(|settings| settings.len() <= MOST_WATCHES))
 }
 

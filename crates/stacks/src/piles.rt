@@ -43,6 +43,44 @@ fn watched<E: Engine + Drop>(setting: Setting<'_>, engine: E) -> Result<Watch<E>
     Ok(Watch::new(rule, engine))
 }
 
+// Each pile is made in a function of its own: in one function for all, the memory of the largest pile would be cleared for the smallest.
+fn send_to_one<E: Engine + Drop>(
+    engine: E,
+    twin: E,
+    only: Setting<'_>,
+    run: &mut Run,
+) -> Result<(), Refusal> {
+    run.send(watched(only, engine)?, watched(only, twin)?);
+    Ok(())
+}
+
+fn send_to_two<E: Engine + Drop>(
+    engine: E,
+    twin: E,
+    inner: Setting<'_>,
+    outer: Setting<'_>,
+    run: &mut Run,
+) -> Result<(), Refusal> {
+    let pile = watched(outer, watched(inner, engine)?)?;
+    let other = watched(inner, watched(outer, twin)?)?;
+    run.send(pile, other);
+    Ok(())
+}
+
+fn send_to_three<E: Engine + Drop>(
+    engine: E,
+    twin: E,
+    inner: Setting<'_>,
+    middle: Setting<'_>,
+    outer: Setting<'_>,
+    run: &mut Run,
+) -> Result<(), Refusal> {
+    let pile = watched(outer, watched(middle, watched(inner, engine)?)?)?;
+    let other = watched(inner, watched(middle, watched(outer, twin)?)?)?;
+    run.send(pile, other);
+    Ok(())
+}
+
 // Sets the watches over the engine, the first one innermost, and over its twin, the last one innermost; then sends the calls to
 // both piles. Of more than three watches only the first three are set. Piles of one, two and three watches are different types, so
 // there is an arm for each: a function that sets watch after watch would call itself at ever new types.
@@ -53,18 +91,12 @@ pub(crate) fn send_to_piles<E: Engine + Drop>(
     run: &mut Run,
 ) -> Result<(), Refusal> {
     match settings {
-        [] => run.send(engine, twin),
-        [only] => run.send(watched(*only, engine)?, watched(*only, twin)?),
-        [inner, outer] => {
-            let pile = watched(*outer, watched(*inner, engine)?)?;
-            let other = watched(*inner, watched(*outer, twin)?)?;
-            run.send(pile, other);
+        [] => {
+            run.send(engine, twin);
+            Ok(())
         }
-        [inner, middle, outer, ..] => {
-            let pile = watched(*outer, watched(*middle, watched(*inner, engine)?)?)?;
-            let other = watched(*inner, watched(*middle, watched(*outer, twin)?)?)?;
-            run.send(pile, other);
-        }
+        [only] => send_to_one(engine, twin, *only, run),
+        [inner, outer] => send_to_two(engine, twin, *inner, *outer, run),
+        [inner, middle, outer, ..] => send_to_three(engine, twin, *inner, *middle, *outer, run),
     }
-    Ok(())
 }

@@ -1,16 +1,13 @@
 // Readers of patterns, up to a whole rule. What is joined groups from the left.
-ghost use Rattle.std.specs.Prelude.{◌≤◌, length};
-ghost use Rattle.rule.specs.Stored.{symbols_of};
+ghost use Rattle.std.specs.Prelude.{◌≡◌};
 ghost use Rattle.rule.specs.Trees.{as_pattern};
 ghost use Rattle.rule.specs.Readers.{Reads, BaseEnds, BaseFails, PieceEnds, ChainEnds, ChainFails, RuleEnds, RuleFails, WholeRead};
 
 use crate::node::Node;
 use crate::reader::Reader;
-use crate::tokens::Tokens;
-use crate::tree::Tree;
 use grammar::{Refusal, Tag};
 
-impl<'a> Reader<'a> {
+impl Reader<'_> {
     #[cycle(patterns)]
     pub(super) fn base(&mut self) -> Result<u16, Refusal>
         ensures { Reads as_pattern BaseEnds BaseFails self.old self.new result }
@@ -66,16 +63,16 @@ impl<'a> Reader<'a> {
         Ok(left)
     }
 
-    // All tokens as one rule: its tree and the root in it.
-    pub(crate) fn whole(tokens: &'a Tokens<'a>) -> Result<(Tree, u16), Refusal>
-        requires { length (symbols_of tokens.now) ≤ 500 }
-        ensures { WholeRead tokens.now result }
+    // All tokens as one rule, by a reader that stands at the first; the root of its tree. The tree stays with the reader, since it would be
+    // copied with the answer.
+    pub(crate) fn whole(&mut self) -> Result<u16, Refusal>
+        requires { self.old.at ≡ 0 }
+        ensures { WholeRead self.old.tokens.now self.new result }
     {
-        let mut reader = Reader::new(tokens);
-        let root = reader.rule()?;
-        if reader.at < tokens.len() {
-            return Err(reader.unexpected());
+        let root = self.rule()?;
+        if self.at < self.tokens.len() {
+            return Err(self.unexpected());
         }
-        Ok((reader.tree, root))
+        Ok(root)
     }
 }

@@ -15,7 +15,7 @@ use crate::tree::Tree;
 use grammar::{Field, Refusal, Relation, Sign, Tag};
 
 impl<'a> Reader<'a> {
-    pub(super) fn new(tokens: &'a Tokens<'a>) -> Reader<'a>
+    pub(crate) fn new(tokens: &'a Tokens<'a>) -> Reader<'a>
         requires { length (symbols_of tokens.now) ≤ 500 }
         ensures { Begins tokens.now result }
     {
@@ -95,9 +95,9 @@ impl<'a> Reader<'a> {
     pub(super) fn number(&mut self) -> Option<u32>
         ensures { Taken Number self.old self.new result }
     {
-        let number = self.tokens.number(self.at);
+        let at = self.at;
         if self.eat(Tag::Number) {
-            return Some(number);
+            return Some(self.tokens.number(at));
         }
         None
     }

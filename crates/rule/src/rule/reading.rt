@@ -2,8 +2,10 @@
 ghost use Rattle.std.specs.Prelude.{◌≡◌, ◌<◌, ◌≤◌, length, pos, MatchResult};
 ghost use Rattle.grammar.specs.declared.Refusal.TheVariants.{WatchNumber, TextTooLong};
 ghost use Rattle.grammar.specs.Tree.{claim, truth};
-ghost use Rattle.grammar.specs.Limits.{text_limit};
+ghost use Rattle.grammar.specs.Limits.{text_limit, claiming, count};
 ghost use Rattle.grammar.specs.Reading.{Numbered};
+ghost use Rattle.rule.specs.Stored.{symbols_of};
+ghost use Rattle.rule.specs.Finished.{RuleOf};
 ghost use Rattle.rule.specs.Held.{watch_of, tokens_of, rule_tree, Parsed, Outcome, ReadWhenAllowed, RefusedWhenNot};
 
 use crate::limits::{few, shallow, uncrowded};
@@ -54,6 +56,26 @@ impl Rule {
         }
     }
 
+    // The rule that tokens are, within the limits. Apart from cutting, so that a text refused before this costs no memory for a tree.
+    fn of(watch: u16, tokens: &Tokens, claims: u8) -> Result<Rule, Refusal>
+        requires least { 1 ≤ watch }
+        requires few { length (symbols_of tokens.now) ≤ 500 }
+        requires counted { claims ≡ count claiming (symbols_of tokens.now) }
+        requires limited { claims ≤ 60 }
+        ensures { RuleOf watch tokens.now result }
+    {
+        let mut reader = Reader::new(tokens);
+        let root = reader.whole()?;
+        Ok(Rule {
+            watch,
+            tree: reader.tree,
+            root,
+            // there are at most 500, so it fits; `try_from` would need a branch that never runs
+            tokens: tokens.len() as u16,
+            claims,
+        })
+    }
+
     // The rule that a text is, under a watch number.
     fn parsed(watch: i32, text: &[u8]) -> Result<Rule, Refusal>
         ensures { Parsed watch text.now result }
@@ -64,15 +86,7 @@ impl Rule {
         few(&tokens)?;
         shallow(&tokens)?;
         let claims = uncrowded(&tokens)?;
-        let (tree, root) = Reader::whole(&tokens)?;
-        Ok(Rule {
-            watch,
-            tree,
-            root,
-            // there are at most 500, so it fits; `try_from` would need a branch that never runs
-            tokens: tokens.len() as u16,
-            claims,
-        })
+        Rule::of(watch, &tokens, claims)
     }
 
     // Reads a text into this place under a watch number, or refuses it and leaves the place as it is.

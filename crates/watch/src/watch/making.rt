@@ -1,6 +1,7 @@
 // Making a watch, and coming to a page.
 ghost use Rattle.std.specs.Prelude.{◌≡◌, ◌<◌, None, Some, Err};
 ghost use Rattle.engine.specs.declared.answers.OrderError.TheVariants.{Halted};
+ghost use Rattle.engine.specs.Books.{after, answer};
 ghost use Rattle.engine.specs.Values.{row_of};
 ghost use Rattle.ledger.specs.Ledger.{halting, risen};
 ghost use Rattle.watch.specs.Tables.{count_of};
@@ -49,6 +50,17 @@ impl<E: Engine> Watch<E> {
         Err(OrderError::Halted(fault))
     }
 
+    // Gives an order to the engine below, before any row is kept, and leaves all else of the watch as it is.
+    pub(crate) fn ask(&mut self, order: Order) -> Answer
+        ensures told { result ≡ answer (E.Engine.book self.old.below) order }
+        ensures moved { E.Engine.book self.new.below ≡ after (E.Engine.book self.old.below) order }
+        ensures rows { self.new.rows ≡ self.old.rows }
+        ensures rule { self.new.rule ≡ self.old.rule }
+        ensures fault { self.new.fault ≡ self.old.fault }
+    {
+        self.below.give(order)
+    }
+
     // Comes to the page below, the first one or the one that an order led to: keeps its row and tries the rule, or halts with the
     // engine below.
     pub(crate) fn enter(&mut self, order: Option<Order>) -> Answer
@@ -64,7 +76,9 @@ impl<E: Engine> Watch<E> {
                 let row = self.rows.len() as u32;
                 let op = order.map_or(Op::First, Order::op);
                 let arg = order.and_then(Order::arg);
-                self.rows.push(Row { op, arg, values });
+                let mut kept = Row::default();
+                kept.write(op, arg, values);
+                self.rows.push(kept);
                 if passes(&self.rule, self.rows.as_slice()) {
                     return Ok(());
                 }

@@ -26,7 +26,7 @@ impl<E: Engine> Engine for Watch<E> {
                 Ok(()) | Err(OrderError::Refused(_)) => Err(OrderError::Refused(Refusal::Full)),
             };
         }
-        match self.below.give(order) {
+        match self.ask(order) {
             Err(OrderError::Halted(fault)) => self.halt(raised(fault)),
             Err(OrderError::Refused(why)) => Err(OrderError::Refused(why)),
             Ok(()) => self.enter(Some(order)),

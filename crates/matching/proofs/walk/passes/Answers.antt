@@ -8,12 +8,12 @@ pub returns-then-whole : goal.returns-then-whole
 returns-then-whole c = at_once c.args.rule.now c.args.rows.now _ c.root-root.ensures.value _ c.summary-whole.ensures c.if-whole.true
 
 pub returns-in_default : goal.returns-in_default
-returns-in_default c = no_rows c.args.rule.now c.args.rows.now _ c.root-root.ensures.value _ c.summary-whole.ensures c.if-whole.false c.in_default.ensures.item.3
+returns-in_default c = no_rows c.args.rule.now c.args.rows.now _ c.root-root.ensures.value _ c.summary-whole.ensures c.if-whole.false c.in_default.ensures.3
 
 pub loop-row-init : goal.loop-row-init
 loop-row-init c =
     begins c.args.rule.now c.args.rows.now _ c.root-root.ensures.value _ c.summary-whole.ensures c.in-Some.newest.now
-    c.if-whole.false c.in-Some.ensures.item.3.0 c.in-Some.ensures.item.1 (iter_rest (rev_source c.into_iter-row-iterator.result)) cc
+    c.if-whole.false c.in-Some.ensures.3.0 c.in-Some.ensures.1 (iter_rest (rev_source c.into_iter-row-iterator.result)) cc
 
 turned : (c : After-left) → Turned c.args.rule.now c.args.rows.now c.in-Some.newest.now c.summary-whole.result c.shift-marks.result (iter_rest (rev_source c.next.new.self))
 turned c =

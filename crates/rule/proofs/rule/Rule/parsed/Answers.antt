@@ -3,10 +3,12 @@ use Rattle.std.proofs.lemmas.List.{length-map}
 use Rattle.std.proofs.lemmas.Result.{err_from_is_err_and}
 use Rattle.grammar.specs.Limits.{claim_limit, claiming, count}
 use Rattle.grammar.specs.Reading.{Numbered}
+use Rattle.grammar.specs.Viable.{FirstBad}
 use Rattle.grammar.proofs.Counts.{rule_claims}
+use Rattle.rule.specs.Readers.{Faulted, WholeIs}
 use Rattle.rule.specs.Spots.{symbol_at}
 use Rattle.rule.specs.Stored.{spots_of, symbols_of}
-use Rattle.rule.proofs.Finish.{watch_refused, long_refused, cut_refused, many_refused, deep_refused, crowd_refused, bad_refused, numbered_within, held, read_parsed, refused_parsed}
+use Rattle.rule.proofs.Finish.{watch_refused, long_refused, cut_refused, many_refused, deep_refused, crowd_refused, numbered_within, made_parsed, refused_parsed}
 use Rattle.rule.proofs.rule.Rule.parsed.Goals as goal
 
 pub returns-in_err-watch : goal.returns-in_err-watch
@@ -66,44 +68,19 @@ returns-in_err-claims c =
     let q = crowd_refused w l s f d c.in_err-claims.ensures in
     rw (p.1, p.2) (refused_parsed _ q)
 
-pub returns-in_err-tree : goal.returns-in_err-tree
-returns-in_err-tree c =
-    let p = err_from_is_err_and c.from_residual-in_err-tree.result c.from_residual-in_err-tree.ensures.1 in
-    let z : to_z w32 (of_z w32 c.args.watch) ≡ c.args.watch = search rules in
-    let w = subst Numbered z c.in_ok-watch.ensures.1 in
-    let l = c.in_ok-short.ensures in
-    let s = c.in_ok-tokens.ensures in
-    let f = c.in_ok-few.ensures in
-    let d = c.in_ok-shallow.ensures in
-    let k = c.in_ok-claims.ensures in
-    let m : count claiming (symbols_of c.in_ok-tokens.tokens) ≤ claim_limit = omega (arith, k) in
-    let q = bad_refused w l s f d m c.in_err-tree.ensures in
-    rw (p.1, p.2) (refused_parsed _ q)
-
-pub invariant_of-result : goal.invariant_of-result
-invariant_of-result c =
+pub of-requires : goal.of-requires
+of-requires c =
     let z : to_z w32 (of_z w32 c.args.watch) ≡ c.args.watch = search rules in
     let w = subst Numbered z c.in_ok-watch.ensures.1 in
     let e = c.in_ok-watch.ensures.0 ∙ z in
-    let f = c.in_ok-few.ensures in
     let k = c.in_ok-claims.ensures in
-    let t = c.in_ok-tokens.tokens in
-    let long = length-map (spots_of t) (symbol_at t.text.now) in
-    let v = numbered_within c.in_ok-watch.watch e w in
-    let r = c.in_ok-tree.ensures in
-    record { least = v.0; most = v.1; rooted = r.there; few = omega (arith, c.len.ensures, long, f); counted = k.0 ∙ rule_claims r.derived; limited = k.1 }
+    record { least = (numbered_within c.in_ok-watch.watch e w).0; few = c.in_ok-few.ensures; counted = k.0; limited = k.1 }
 
 pub returns : goal.returns
 returns c =
     let z : to_z w32 (of_z w32 c.args.watch) ≡ c.args.watch = search rules in
     let w = subst Numbered z c.in_ok-watch.ensures.1 in
     let e = c.in_ok-watch.ensures.0 ∙ z in
-    let l = c.in_ok-short.ensures in
-    let s = c.in_ok-tokens.ensures in
-    let f = c.in_ok-few.ensures in
-    let d = c.in_ok-shallow.ensures in
     let k = c.in_ok-claims.ensures in
-    let t = c.in_ok-tokens.tokens in
-    let long = length-map (spots_of t) (symbol_at t.text.now) in
-    let m : count claiming (symbols_of t) ≤ claim_limit = omega (arith, k) in
-    read_parsed _ (held w l s f d m _ c.in_ok-tree.ensures.derived e (c.len.ensures ∙ sym long))
+    let m : count claiming (symbols_of c.in_ok-tokens.tokens) ≤ claim_limit = omega (arith, k) in
+    made_parsed w c.in_ok-short.ensures c.in_ok-tokens.ensures c.in_ok-few.ensures c.in_ok-shallow.ensures m c.of.result c.in_ok-watch.watch e c.of.ensures
